@@ -1,0 +1,5 @@
+pub mod Places
+pub mod Words
+pub mod Ends
+pub mod Pieces
+mod Cases

@@ -1,0 +1,53 @@
+-- `reading::delimiter` meets its contract: a search over places, and in it a comparison with the boundary that has come to k. Assumes nothing.
+use mathlib.Core.Path.{sym, _∙_}
+use mathlib.Core.Logic.{⊎-elim}
+use Prim.Native.Nat.{_-_}
+use native.Mathlib.Omega.{arith}
+use lib.ListN.{length}
+use borrow.Author.Needs.{needs}
+use Rattle.reading.specs.Reading.{delimits}
+use Rattle.reading.proofs.Ends.{Behind, opens-not, behind-none-yet, behind-all, behind-short, behind-differs, behind-on}
+use Rattle.reading.proofs.Places.{Sought, sought-none-yet, sought-here, sought-on, sought-in-vain}
+use Rattle.reading.proofs.delimiter.Statement.{statement}
+use Rattle.reading.proofs.delimiter.Tie as tie
+
+abbrev Inv-loop : tie.InvT-loop
+Inv-loop s b p k₀ k = Behind b s p k
+
+abbrev μ-loop : tie.MeasureT-loop
+μ-loop s b p k₀ k = length b - k
+
+abbrev Inv-places : tie.InvT-places
+Inv-places s b p₀ p = Sought (delimits b s) s p
+
+abbrev μ-places : tie.MeasureT-places
+μ-places s b p₀ p = length s - p
+
+pub delimiter-spec : {M : Type 1} → statement M
+delimiter-spec =
+    tie.close
+    (tie.spec
+    Inv-loop
+    μ-loop
+    Inv-places
+    μ-places
+    (λ c. sought-none-yet _ _)
+    (λ c _. search needs)
+    (λ c. behind-none-yet _ _ _ (sym (c .before .opens .ensures) ∙ c .if2 .taken))
+    (λ c. omega (arith, c .before .loop .inv .room))
+    (λ c. omega (arith, c .before .loop .inv .room))
+    (λ c. omega (arith, c .before .before .loop .inv .room))
+    (λ c. omega (arith, c .before .before .loop .inv .room))
+    (λ c. omega (arith, c .before .before .before .loop .inv .room))
+    (λ c. search needs)
+    (λ c. search needs)
+    (λ c. search needs)
+    (λ c. behind-on (c .before .before .before .before .before .loop .inv) (c .before .before .before .before .if3 .left) (c .before .before .before .if4 .left) (c .if5 .left))
+    (λ c. search needs)
+    (λ c. search needs)
+    (λ c. sought-on (c .before .before .before .places .inv) (c .before .before .if1 .left)
+    (⊎-elim (λ w. behind-short (w .1 .inv) (w .2 .left) (w .3 .taken))
+    (⊎-elim (λ w. behind-differs (w .1 .inv) (w .2 .left) (w .3 .left) (w .6 .taken)) (λ w. opens-not _ _ _ (sym (c .before .opens .ensures) ∙ w .left)))
+    (c .if2 .came)))
+    (λ c. sought-in-vain (c .before .places .inv) (c .if1 .taken))
+    (λ c. sought-here (c .before .before .before .before .before .places .inv) (c .before .before .before .before .if1 .left) (behind-all (c .before .loop .inv) (c .if3 .taken))))

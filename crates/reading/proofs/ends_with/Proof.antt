@@ -1,0 +1,24 @@
+-- `reading::ends_with` meets its contract. Assumes nothing.
+use mathlib.Core.Path.{ap, _∙_}
+use borrow.Author.Needs.{needs}
+use Rattle.reading.specs.Bytes.{same, endsWith}
+use Rattle.reading.proofs.Ends.{ends-short}
+use Rattle.reading.proofs.Words.{rest-is}
+use Rattle.reading.proofs.ends_with.Statement.{statement}
+use Rattle.reading.proofs.ends_with.Tie as tie
+
+returns-2 : tie.Need-returns-2
+unfolding endsWith
+returns-2 c = c .equals .ensures ∙ ap (same _) (rest-is (c .before .before .before .before .before .args .l .now) _)
+
+pub ends-with-spec : {M : Type 1} → statement M
+ends-with-spec =
+    tie.close
+    (tie.spec
+    (λ c. ends-short _ _ (c .if1 .taken))
+    (λ c. search needs)
+    (λ c. search needs)
+    (λ c. search needs)
+    (λ c. search needs)
+    (λ c _. search needs)
+    returns-2)

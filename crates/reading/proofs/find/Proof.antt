@@ -1,0 +1,41 @@
+-- `reading::find` meets its contract: a search that has come to p. Assumes nothing.
+use mathlib.Core.Path.{sym, ap, _∙_}
+use Prim.Native.Nat.{_-_}
+use lib.ListN.{length}
+use borrow.Author.Needs.{needs}
+use Rattle.reading.specs.Bytes.{startsWith, stands}
+use Rattle.reading.proofs.Places.{Sought, sought-none-yet, sought-here, sought-on, sought-in-vain}
+use Rattle.reading.proofs.Words.{rest-is}
+use Rattle.reading.proofs.find.Statement.{statement}
+use Rattle.reading.proofs.find.Tie as tie
+
+abbrev Inv-loop : tie.InvT-loop
+Inv-loop l w p₀ p = Sought (stands w l) l p
+
+abbrev μ-loop : tie.MeasureT-loop
+μ-loop l w p₀ p = length l - p
+
+returns : tie.Need-returns Inv-loop μ-loop
+unfolding stands
+returns c = sought-here (c .before .before .before .before .loop .inv) (c .before .before .before .loop-test .taken) (ap (startsWith _) (sym (rest-is (c .before .before .before .before .before .before .before .args .l .now) _)) ∙ sym (c .before .starts-with .ensures) ∙ c .if1 .taken)
+
+loop-again : tie.Need-loop-again Inv-loop μ-loop
+unfolding stands
+loop-again c = sought-on (c .before .before .before .before .loop .inv) (c .before .before .before .loop-test .taken) (ap (startsWith _) (sym (rest-is (c .before .before .before .before .before .before .before .args .l .now) _)) ∙ sym (c .before .starts-with .ensures) ∙ c .if1 .left)
+
+pub find-spec : {M : Type 1} → statement M
+find-spec =
+    tie.close
+    (tie.spec
+    Inv-loop
+    μ-loop
+    (λ c. sought-none-yet _ _)
+    (λ c. search needs)
+    (λ c. search needs)
+    (λ c. search needs)
+    (λ c _. search needs)
+    returns
+    (λ c. search needs)
+    (λ c. search needs)
+    loop-again
+    (λ c. sought-in-vain (c .before .loop .inv) (c .loop-test .left)))

@@ -1,0 +1,203 @@
+// Reading: lines, delimiters and words in a part of the buffer. Stands for `PktStrm` and its readers.
+// A read answers the place behind what it reads, or that it needs bytes beyond the end.
+ghost use mathlib.Core.Path.{_≡_};
+ghost use mathlib.Core.Bool.{_&&_};
+ghost use mathlib.Core.List.{[], _∷_};
+ghost use Prim.Native.Nat.{_<_, _≤_};
+ghost use lib.ListN.{length, take, drop};
+ghost use Rattle.reading.specs.Bytes.{startsWith, same, endsWith, raised, firstPlace, holds, stands, contains};
+ghost use Rattle.reading.specs.Reading.{clean, dropEnd, dash, mayStand, delimits, reach, aLine};
+
+pub enum Place {
+    At(usize),
+    Nowhere,
+}
+
+// The place behind the first line.
+pub fn line_end(s: &[u8]) -> Place
+    ensures { λ r. ⌜ r ≡ reach aLine (now (s .entry)) ⌝ }
+{
+    match find_byte(s, b'\n') {
+        Place::At(p) => Place::At(p + 1),
+        Place::Nowhere => Place::Nowhere,
+    }
+}
+
+// The first place that holds a byte.
+pub fn find_byte(s: &[u8], b: u8) -> Place
+    ensures { λ r. ⌜ r ≡ firstPlace (holds b (now (s .entry))) (now (s .entry)) ⌝ }
+{
+    let mut p = 0;
+    while p < s.len() {
+        if s[p] == b {
+            return Place::At(p);
+        }
+        p += 1;
+    }
+    Place::Nowhere
+}
+
+// The length of a line without its LF and one CR before it.
+pub fn clean_end(l: &[u8]) -> usize
+    ensures { λ r. ⌜ r ≡ length (clean (now (l .entry))) ⌝ }
+{
+    let n = drop_end(l, l.len(), b'\n');
+    drop_end(l, n, b'\r')
+}
+
+// The length of the first n bytes without a b at their end.
+fn drop_end(l: &[u8], n: usize, b: u8) -> usize
+    requires { ⌜ n ≤ length (now l) ⌝ }
+    ensures { λ r. ⌜ r ≡ length (dropEnd (b ∷ []) (take n (now (l .entry)))) ⌝ }
+{
+    if n == 0 {
+        return 0;
+    }
+    let last = n - 1;
+    if l[last] == b {
+        return last;
+    }
+    n
+}
+
+// Whether l opens with the word w.
+pub fn starts_with(l: &[u8], w: &[u8]) -> bool
+    ensures { λ r. ⌜ r ≡ startsWith (now (w .entry)) (now (l .entry)) ⌝ }
+{
+    let mut k = 0;
+    while k < w.len() {
+        if l.len() <= k {
+            return false;
+        }
+        if l[k] != w[k] {
+            return false;
+        }
+        k += 1;
+    }
+    true
+}
+
+// Whether l opens with the word w in any case.
+pub fn starts_with_any_case(l: &[u8], w: &[u8]) -> bool
+    ensures { λ r. ⌜ r ≡ startsWith (raised (now (w .entry))) (raised (now (l .entry))) ⌝ }
+{
+    let mut k = 0;
+    while k < w.len() {
+        if l.len() <= k {
+            return false;
+        }
+        if classes::upper(l[k]) != classes::upper(w[k]) {
+            return false;
+        }
+        k += 1;
+    }
+    true
+}
+
+// Whether l is the word w.
+pub fn equals(l: &[u8], w: &[u8]) -> bool
+    ensures { λ r. ⌜ r ≡ same (now (w .entry)) (now (l .entry)) ⌝ }
+{
+    if l.len() != w.len() {
+        return false;
+    }
+    starts_with(l, w)
+}
+
+// Whether l is the word w in any case.
+pub fn equals_any_case(l: &[u8], w: &[u8]) -> bool
+    ensures { λ r. ⌜ r ≡ same (raised (now (w .entry))) (raised (now (l .entry))) ⌝ }
+{
+    if l.len() != w.len() {
+        return false;
+    }
+    starts_with_any_case(l, w)
+}
+
+// Whether l ends with the word w.
+pub fn ends_with(l: &[u8], w: &[u8]) -> bool
+    ensures { λ r. ⌜ r ≡ endsWith (now (w .entry)) (now (l .entry)) ⌝ }
+{
+    if l.len() < w.len() {
+        return false;
+    }
+    let from = l.len() - w.len();
+    equals(&l[from..], w)
+}
+
+// The first place where the word w stands.
+pub fn find(l: &[u8], w: &[u8]) -> Place
+    ensures { λ r. ⌜ r ≡ firstPlace (stands (now (w .entry)) (now (l .entry))) (now (l .entry)) ⌝ }
+{
+    let mut p = 0;
+    while p < l.len() {
+        if starts_with(&l[p..], w) {
+            return Place::At(p);
+        }
+        p += 1;
+    }
+    Place::Nowhere
+}
+
+// Whether the word w stands somewhere in l, in any case.
+pub fn contains_any_case(l: &[u8], w: &[u8]) -> bool
+    ensures { λ r. ⌜ r ≡ contains (raised (now (w .entry))) (raised (now (l .entry))) ⌝ }
+{
+    let mut p = 0;
+    while p < l.len() {
+        if starts_with_any_case(&l[p..], w) {
+            return true;
+        }
+        p += 1;
+    }
+    false
+}
+
+// The first place of a region where a delimiter for the boundary b stands.
+pub fn delimiter(s: &[u8], b: &[u8]) -> Place
+    ensures { λ r. ⌜ r ≡ firstPlace (delimits (now (b .entry)) (now (s .entry))) (now (s .entry)) ⌝ }
+{
+    let mut p = 0;
+    'places: loop {
+        if s.len() <= p {
+            break 'places Place::Nowhere;
+        }
+        if opens(s, p) {
+            let mut k = 0;
+            loop {
+                if b.len() <= k {
+                    break 'places Place::At(p);
+                }
+                if s.len() - p - 2 <= k {
+                    break;
+                }
+                if s[p + 2 + k] != b[k] {
+                    break;
+                }
+                k += 1;
+            }
+        }
+        p += 1;
+    }
+}
+
+// Whether p is a place for a delimiter and holds two hyphens.
+fn opens(s: &[u8], p: usize) -> bool
+    requires { ⌜ p < length (now s) ⌝ }
+    ensures { λ r. ⌜ r ≡ (startsWith (dash []) (drop p (now (s .entry))) && mayStand (now (s .entry)) p) ⌝ }
+{
+    if s[p] != b'-' {
+        return false;
+    }
+    let q = p + 1;
+    if s.len() <= q {
+        return false;
+    }
+    if s[q] != b'-' {
+        return false;
+    }
+    if p == 0 {
+        return true;
+    }
+    ends_with(&s[..p], b"\r\n")
+}
