@@ -1,0 +1,136 @@
+//! The judge of mail sessions: the Rust of four parser files over a stream written to document 01.
+
+mod case;
+mod choose;
+mod compare;
+mod direction;
+mod dnsudp;
+mod fields;
+mod generate;
+mod grammar;
+mod imapprotolens;
+mod judge;
+mod lens;
+mod list;
+mod packet;
+mod parser;
+mod reading;
+mod rng;
+mod selftest;
+mod sharp;
+mod stored;
+mod stream;
+mod trace;
+mod wrong;
+
+// The parser files look for these names at the root.
+use dnsudp::{DnsHeader, OptRR, Qtype, RR};
+use lens::{DirConfirmFn, IMAP_PORT, POP3_PORT, Parser, ParserFactory, ParserFuture, Prolens, SMTP_PORT};
+use packet::{Direction, Packet};
+use parser::common::*;
+use stream::{PktStrm, ReadRet};
+
+use generate::{Generator, Kind};
+use std::process::ExitCode;
+
+const USAGE: &str = "usage:
+  oracle list [--slots N] [--plain] [--no-overlays] [--any-length] a session from standard input
+  oracle batch FILE                                                listings of a batch file
+  oracle bench ENTRY FILE [--plain]                                times one large session
+  oracle generate CASES OUT                                        a batch file of made cases
+  oracle compare CASES                                             the oracle against the second reading
+  oracle compare FILE                                              the same over a batch file
+  oracle sharp CASES                                               wrong readings told by the cases
+  oracle choose CASES OUT                                          a small batch file that meets much
+  oracle answers FILE OUT                                          a batch file with the oracle's answers
+  oracle check FILE                                                replays a file with answers
+  oracle show FILE                                                 a file with answers as text
+  oracle selftest                                                  document 01's examples and the findings
+CASES: [--seed N] [--count N] [--first N, for generate and compare] [--any-byte | --short]";
+
+/// The words of the command line: flags, flags with a number, and the rest.
+pub struct Words {
+    flags: Vec<String>,
+    numbers: Vec<(String, u64)>,
+    rest: Vec<String>,
+}
+
+impl Words {
+    fn parse(mut words: impl Iterator<Item = String>) -> Option<Words> {
+        let mut parsed = Words { flags: Vec::new(), numbers: Vec::new(), rest: Vec::new() };
+        while let Some(word) = words.next() {
+            match word.as_str() {
+                "--slots" | "--seed" | "--count" | "--first" => {
+                    let number = words.next()?.parse().ok()?;
+                    parsed.numbers.push((word, number));
+                }
+                "--plain" | "--no-overlays" | "--any-length" | "--any-byte" | "--short" => parsed.flags.push(word),
+                _ if word.starts_with("--") => return None,
+                _ => parsed.rest.push(word),
+            }
+        }
+        Some(parsed)
+    }
+
+    pub fn has(&self, flag: &str) -> bool {
+        self.flags.iter().any(|given| given == flag)
+    }
+
+    pub fn number(&self, name: &str) -> Option<u64> {
+        self.numbers.iter().find(|(given, _)| given == name).map(|(_, number)| *number)
+    }
+
+    fn generator(&self) -> Generator {
+        let kind = match (self.has("--any-byte"), self.has("--short")) {
+            (true, _) => Kind::AnyByte,
+            (_, true) => Kind::Short,
+            _ => Kind::Ascii,
+        };
+        Generator { seed: self.number("--seed").unwrap_or(1), kind }
+    }
+
+    fn count(&self) -> u64 {
+        self.number("--count").unwrap_or(100_000)
+    }
+
+    /// The numbers of the cases asked for.
+    fn numbers(&self) -> std::ops::Range<u64> {
+        let first = self.number("--first").unwrap_or(0);
+        first..first + self.count()
+    }
+}
+
+fn run(words: &Words) -> Result<bool, String> {
+    let rest: Vec<&str> = words.rest.iter().map(String::as_str).collect();
+    match rest[..] {
+        ["list"] => list::list(words),
+        ["batch", file] => list::batch(file),
+        ["bench", entry, file] => list::bench(entry, file, words.has("--plain")),
+        ["generate", out] => stored::generate(words.generator(), words.numbers(), out),
+        ["compare"] => {
+            let generator = words.generator();
+            Ok(compare::run(words.numbers().map(|number| generator.case(number))))
+        }
+        ["compare", file] => Ok(compare::run(list::cases(file)?.into_iter())),
+        ["sharp"] => Ok(sharp::run(words.generator(), words.count())),
+        ["choose", out] => stored::choose(words.generator(), words.count(), out),
+        ["answers", file, out] => stored::answers(file, out),
+        ["check", file] => stored::check(file),
+        ["show", file] => stored::show(file),
+        ["selftest"] => Ok(selftest::run()),
+        _ => Err(USAGE.to_string()),
+    }
+}
+
+fn main() -> ExitCode {
+    judge::silence_panics();
+    let words = Words::parse(std::env::args().skip(1));
+    match words.ok_or(USAGE.to_string()).and_then(|words| run(&words)) {
+        Ok(true) => ExitCode::SUCCESS,
+        Ok(false) => ExitCode::FAILURE,
+        Err(why) => {
+            eprintln!("{why}");
+            ExitCode::from(2)
+        }
+    }
+}

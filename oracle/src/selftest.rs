@@ -1,0 +1,239 @@
+//! Document 01's "Sessions to check", and the findings of docs/DIFFERENCES.md, as cases with answers.
+
+use crate::case::{Answer, Case, ENOUGH, Sides, readable};
+use crate::judge::{PlainJudge, SwiftJudge};
+use crate::packet::{Packet, Plain, Swift};
+use crate::reading;
+use crate::wrong::Wrong;
+use memchr::memmem::Finder;
+
+const FIRST: &str = "EHLO a\r\nMAIL FROM: <b@c>\r\nRCPT TO: <d@e>\r\nDATA\r\nTo: d\r\n\r\nhi\r\n.\r\n";
+const FIRST_EVENTS: &str = "11 20 3 0\n12 36 3 0\n1 48 7 0\n1 55 2 0\n2 57 0 0\n3 57 4 0\n";
+
+struct Documented {
+    case: Case,
+    listing: String,
+}
+
+fn documented(entry: u8, slots: u32, bytes: &str, listing: &str) -> Documented {
+    let case = Case { entry, slots, bytes: bytes.into() };
+    Documented { case, listing: listing.to_string() }
+}
+
+/// A POP3 line of `length` bytes, then a mail of one line, which is one only if the line retrieves.
+fn retrieval(line: &str, retrieves: bool) -> Documented {
+    let n = line.len();
+    let mail = format!("1 {} 6 0\n1 {} 2 0\n2 {} 0 0\n6 {} 0 0\n1 {} 5\n", n + 2, n + 8, n + 10, n + 10, n + 13);
+    let lines = format!("8 {} 4 0\n8 {} 0 0\n8 {} 1 0\n1 {} 4\n", n + 2, n + 8, n + 10, n + 13);
+    let listing = format!("8 0 {n} 0\n{}", if retrieves { mail } else { lines });
+    documented(b'P', ENOUGH, &format!("{line}\r\nT: u\r\n\r\n.\r\n"), &listing)
+}
+
+/// An append whose mail has a header of eight bytes; a size of 0 refuses.
+fn append(size: &str, mail: &str, end: &str) -> Documented {
+    let command = format!("a APPEND x {size}");
+    let n = command.len();
+    let listing = format!("7 0 {n} 0\n1 {} 6 0\n1 {} 2 0\n{end}", n + 2, n + 8);
+    documented(b'I', ENOUGH, &format!("{command}\r\nT: u\r\n\r\n{mail}"), &listing)
+}
+
+/// `levels` multiparts one in another, then one part and its close.
+fn nested(levels: usize) -> Documented {
+    let mut text = "+OK 1 octets\r\n".to_string();
+    let mut listing = "8 0 12 0\n".to_string();
+    for level in 1..=levels {
+        let at = text.len();
+        text += &format!("Content-Type: boundary={level}\r\n\r\n");
+        listing += &format!("1 {at} 26 0\n1 {} 2 0\n", at + 26);
+        if level == 9 {
+            listing += &format!("9 {} {}\n", text.len(), 1 + 2 * levels);
+            return documented(b'P', ENOUGH, &text, &listing);
+        }
+        text += &format!("--{level}\r\n");
+    }
+    let at = text.len();
+    text += &format!("\r\nx\r\n--{levels}--\r\n");
+    listing += &format!(
+        "1 {at} 2 0\n2 {} 0 0\n5 {} 1 0\n6 {} 0 0\n1 {} {}\n",
+        at + 2,
+        at + 2,
+        at + 3,
+        text.len(),
+        5 + 2 * levels
+    );
+    documented(b'P', ENOUGH, &text, &listing)
+}
+
+/// A preamble or content by itself: the text behind the blank line of a mail with boundary q.
+fn region(text: &str, listing: &str) -> Documented {
+    let before = "+OK 1 octets\r\nContent-Type: boundary=q\r\n\r\n";
+    documented(b'P', ENOUGH, &format!("{before}{text}"), &format!("8 0 12 0\n1 14 26 0\n1 40 2 0\n{listing}"))
+}
+
+fn all_documented() -> Vec<Documented> {
+    let whole = format!("{FIRST_EVENTS}6 61 0 0\n0 64 7\n");
+    let mut all = vec![
+        documented(b'S', ENOUGH, FIRST, &whole),
+        documented(b'S', 7, FIRST, &whole),
+        documented(b'S', 6, FIRST, &format!("{FIRST_EVENTS}10 61 6\n")),
+        retrieval("+OK 4294967295 octets", true),
+        retrieval("+OK 4294967296 octets", false),
+        retrieval("+OK 0000000000007 octetsX", true),
+        retrieval("+OK12 octets", false),
+        append("{10}}", "hi\r\n", "2 26 0 0\n4 26 2 0\n6 28 0 0\n1 30 6\n"),
+        append("{10+}", "hi\r\n", "7 26 3\n"),
+        append("{}", "hi\r\n", "7 23 3\n"),
+        append("{18446744073709551616}", "hi\r\n", "7 43 3\n"),
+        append("{11}", "hey\r\n", "2 25 0 0\n4 25 3 0\n6 28 0 0\n1 30 6\n"),
+        append("{08}", "hey\r\n", "2 25 0 0\n6 25 0 0\n8 25 5\n"),
+        append("{07}", "hey\r\n", "7 25 3\n"),
+        region("abc\r\n--q\r\n", "1 52 3\n"),
+        region("--q\r\n", "1 47 3\n"),
+        region("x--q\r\n", "1 42 3\n"),
+        region("--q\r\n\r\nabc\r\n--q", "1 47 2 0\n2 49 0 0\n5 49 3 0\n6 52 0 0\n1 57 7\n"),
+        region("--q\r\n\r\n--q", "1 47 2 0\n2 49 0 0\n6 49 0 0\n1 52 6\n"),
+        region("--q\r\n\r\nx--q", "1 47 2 0\n2 49 0 0\n1 49 5\n"),
+        region("--qq\r\n", "6 45 3\n"),
+        nested(8),
+        nested(9),
+    ];
+    all.extend(b"SsPI".iter().map(|&entry| documented(entry, ENOUGH, "", "1 0 0\n")));
+    all
+}
+
+pub fn documented_cases() -> Vec<Case> {
+    all_documented().into_iter().map(|documented| documented.case).collect()
+}
+
+/// Input outside the claim, what document 01 says, and what the Rust does.
+struct Finding {
+    case: Case,
+    document: &'static str,
+    rust: &'static str,
+}
+
+fn finding(entry: u8, bytes: &[u8], document: &'static str, rust: &'static str) -> Finding {
+    Finding { case: Case::session(entry, bytes), document, rust }
+}
+
+fn greeting(server: &[u8], document: &'static str, rust: &'static str) -> Finding {
+    Finding { case: Sides::case(3, [0, 0], 2, b"", server), document, rust }
+}
+
+const OFF_BOUNDARY: &str = "unjudged: panic in common.rs: off a character boundary\n";
+const OFF_BOUNDARY_TAG: &str = "unjudged: panic in imap.rs: off a character boundary\n";
+const CLOSED: &str = "Content-Type: boundary=\r\n\r\n--\r\n\r\n----";
+
+/// In the order of docs/DIFFERENCES.md.
+fn findings() -> Vec<Finding> {
+    let smtp = format!("HELO\nMAIL FROM:\nDATA\n{CLOSED}--\u{e9}\n");
+    let pop3 = format!("+OK 1 octets\n{CLOSED}--\u{e9}\n");
+    let imap = format!("a APPEND\n{CLOSED}--\u{e9}\n");
+    vec![
+        finding(
+            b'I', b"a APPEND{4}\xc2\xa0\n:\n\r\n", "7 0 13 0\n1 14 2 0\n1 16 2 0\n7 18 3\n",
+            "7 0 13 0\n1 14 2 0\n1 16 2 0\n2 18 0 0\n6 18 0 0\n1 18 5\n",
+        ),
+        finding(b'I', b"\xc2\x85 APPEND\n:\n", "7 0 9 0\n1 10 2 0\n1 12 2\n", "7 0 9 0\n7 10 1 0\n1 12 2\n"),
+        finding(b'S', smtp.as_bytes(), "1 21 25 0\n1 46 2 0\n1 52 2 0\n2 54 0 0\n6 54 0 0\n1 63 5\n", OFF_BOUNDARY),
+        finding(
+            b'P',
+            pop3.as_bytes(),
+            "8 0 12 0\n1 13 25 0\n1 38 2 0\n1 44 2 0\n2 46 0 0\n6 46 0 0\n1 55 6\n",
+            OFF_BOUNDARY,
+        ),
+        finding(
+            b'I',
+            imap.as_bytes(),
+            "7 0 8 0\n1 9 25 0\n1 34 2 0\n1 40 2 0\n2 42 0 0\n6 42 0 0\n1 51 6\n",
+            OFF_BOUNDARY,
+        ),
+        greeting("\u{e9} A     x".as_bytes(), "0\n", OFF_BOUNDARY_TAG),
+        greeting("a\u{a0} A    x".as_bytes(), "0\n", OFF_BOUNDARY_TAG),
+        greeting("\u{212a}aA    x".as_bytes(), "0\n", "1\n"),
+        greeting("a \u{c9}     x".as_bytes(), "0\n", "1\n"),
+        finding(b's', b"\x80\n", "8 0 1 0\n1 2 1\n", "unjudged: no UTF-8\n"),
+    ]
+}
+
+struct Judges {
+    swift: SwiftJudge,
+    plain: PlainJudge,
+    failed: usize,
+    run: usize,
+}
+
+impl Judges {
+    fn expect(&mut self, what: &str, case: &Case, found: &Answer, wanted: &str) {
+        self.run += 1;
+        let found = found.to_string();
+        if found != wanted {
+            self.failed += 1;
+            println!("{what}, {} {}:\n{found}instead of\n{wanted}", case.entry as char, readable(&case.bytes));
+        }
+    }
+
+    fn ask(&mut self, case: &Case, rust: &str, document: &str) {
+        let answers = [
+            ("stream on memchr", self.swift.answer(case), rust),
+            ("stream of byte loops", self.plain.answer(case), rust),
+            ("second reading", reading::answer(case, Wrong::Nothing), document),
+        ];
+        for (what, answer, wanted) in &answers {
+            self.expect(what, case, answer, wanted);
+        }
+    }
+}
+
+/// Content's length and where reading goes on, by document 01's three examples.
+fn delimiters<T: Packet>() -> bool {
+    let finder = Finder::new("q");
+    let place = |region: &str| T::delimiter(region.as_bytes(), &finder, b"q");
+    place("abc\r\n--q") == Some(5) && place("--q") == Some(0) && place("x--q").is_none()
+}
+
+/// No character above 127 becomes t, l or s in lower case, so the tls test is the same for both.
+fn lower_case_is_safe() -> bool {
+    let above = (128..=0x10ffff).filter_map(char::from_u32);
+    above.flat_map(char::to_lowercase).all(|c| !matches!(c, 't' | 'l' | 's'))
+}
+
+/// The characters above 127 that docs/DIFFERENCES.md calls white space are all there are.
+fn white_space_is_known() -> bool {
+    let known =
+        |c: u32| matches!(c, 0x85 | 0xa0 | 0x1680 | 0x2000..=0x200a | 0x2028 | 0x2029 | 0x202f | 0x205f | 0x3000);
+    (128..=0x10ffff).all(|c| char::from_u32(c).is_none_or(|text| text.is_whitespace() == known(c)))
+}
+
+pub fn run() -> bool {
+    let mut judges = Judges {
+        swift: SwiftJudge::new(true),
+        plain: PlainJudge::new(true),
+        failed: 0,
+        run: 0,
+    };
+    for documented in all_documented() {
+        judges.ask(&documented.case, &documented.listing, &documented.listing);
+    }
+    for finding in findings() {
+        judges.ask(&finding.case, finding.rust, finding.document);
+    }
+    let full = vec![0; 16_777_216];
+    judges.ask(&Case::session(b's', &full), "1 0 0\n", "1 0 0\n");
+    let over = vec![b'\n'; 16_777_217];
+    judges.ask(&Case::session(b's', &over), "2 0 0\n", "2 0 0\n");
+    let sound = delimiters::<Plain>() && delimiters::<Swift>() && lower_case_is_safe() && white_space_is_known();
+    println!(
+        "{} checks, {} failed; delimiters and characters {}",
+        judges.run,
+        judges.failed,
+        if sound { "hold" } else { "FAIL" }
+    );
+    sound && judges.failed == 0
+}
+
+#[test]
+fn documented_sessions_and_findings_hold() {
+    crate::judge::silence_panics();
+    assert!(run());
+}

@@ -1,0 +1,52 @@
+//! How sharp the cases are: each wrong reading against the oracle's answers.
+
+use crate::case::{Answer, Case};
+use crate::generate::Generator;
+use crate::judge::SwiftJudge;
+use crate::reading;
+use crate::wrong::{WRONGS, Wrong};
+
+/// The wrong readings that give another answer to this case.
+pub fn told<'a>(case: &'a Case, answer: &'a Answer) -> impl Iterator<Item = usize> + 'a {
+    let entry = case.entry as char;
+    let tells = move |at: &usize| {
+        let (wrong, entries, _) = WRONGS[*at];
+        entries.contains(entry) && reading::answer(case, wrong) != *answer
+    };
+    (0..WRONGS.len()).filter(tells)
+}
+
+/// Prints the table; tells whether every wrong reading was told and the right one never.
+pub fn run(generator: Generator, count: u64) -> bool {
+    println!("# Sharpness: wrong readings of document 01 told by generated cases\n");
+    println!("Printed by `oracle sharp --seed {} --count {count}`. Case numbers count from 0.\n", generator.seed);
+    let judge = SwiftJudge::new(true);
+    let mut firsts: Vec<Option<u64>> = vec![None; WRONGS.len()];
+    let mut counts = vec![0u64; WRONGS.len()];
+    let mut right = 0;
+    for number in 0..count {
+        let case = generator.case(number);
+        let answer = judge.answer(&case);
+        right += u64::from(reading::answer(&case, Wrong::Nothing) != answer);
+        for at in told(&case, &answer) {
+            firsts[at].get_or_insert(number);
+            counts[at] += 1;
+        }
+    }
+    print_table(&firsts, &counts);
+    let missed = firsts.iter().filter(|first| first.is_none()).count();
+    println!(
+        "\n{} wrong readings, {missed} not told; the right reading differs in {right} of {count} cases.",
+        WRONGS.len()
+    );
+    missed == 0 && right == 0
+}
+
+fn print_table(firsts: &[Option<u64>], counts: &[u64]) {
+    println!("| No. | wrong reading | what it takes for right | entries | first case | cases that tell it |");
+    println!("|---|---|---|---|---|---|");
+    for (at, (wrong, entries, text)) in WRONGS.iter().enumerate() {
+        let first = firsts[at].map_or("NOT TOLD".to_string(), |number| number.to_string());
+        println!("| {} | {wrong:?} | {text} | {entries} | {first} | {} |", at + 1, counts[at]);
+    }
+}

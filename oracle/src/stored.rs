@@ -1,0 +1,87 @@
+//! Files of cases: generated ones, a small choice that meets much, and cases with their answers.
+
+use crate::case::{Answer, Bytes, Case, readable, write_answer, write_case};
+use crate::choose;
+use crate::compare::Both;
+use crate::generate::Generator;
+use crate::judge::SwiftJudge;
+use crate::list::{cases, read_file};
+use crate::sharp;
+use crate::wrong::WRONGS;
+use std::collections::HashSet;
+use std::fs::File;
+use std::io::{BufWriter, Error, Write};
+use std::ops::Range;
+
+fn save(path: &str, bytes: &[u8]) -> Result<bool, String> {
+    std::fs::write(path, bytes).map_err(|why| format!("{path}: {why}"))?;
+    Ok(true)
+}
+
+pub fn generate(generator: Generator, numbers: Range<u64>, path: &str) -> Result<bool, String> {
+    let failed = |why: Error| format!("{path}: {why}");
+    let mut out = BufWriter::new(File::create(path).map_err(failed)?);
+    for number in numbers {
+        let mut record = Vec::new();
+        write_case(&mut record, &generator.case(number));
+        out.write_all(&record).map_err(failed)?;
+    }
+    out.flush().map_err(failed)?;
+    Ok(true)
+}
+
+pub fn answers(from: &str, path: &str) -> Result<bool, String> {
+    let judge = SwiftJudge::new(true);
+    let mut out = Vec::new();
+    for (number, case) in cases(from)?.iter().enumerate() {
+        let answer = judge.answer(case);
+        if let Answer::Unjudged(why) = answer {
+            return Err(format!("{from}: case {number} has no answer: {why}"));
+        }
+        write_case(&mut out, case);
+        write_answer(&mut out, &answer);
+    }
+    save(path, &out)
+}
+
+fn answered(path: &str) -> Result<Vec<(Case, Answer)>, String> {
+    let bytes = read_file(path)?;
+    let mut from = Bytes(&bytes);
+    let mut all = Vec::new();
+    while !from.0.is_empty() {
+        let record = from.case().and_then(|case| from.answer(case.entry).map(|answer| (case, answer)));
+        all.push(record.ok_or(format!("{path}: record {} is broken", all.len()))?);
+    }
+    Ok(all)
+}
+
+pub fn show(path: &str) -> Result<bool, String> {
+    for (number, (case, answer)) in answered(path)?.iter().enumerate() {
+        println!("case {number}: {} slots {} {}", case.entry as char, case.slots(), readable(&case.bytes));
+        print!("{answer}");
+    }
+    Ok(true)
+}
+
+pub fn check(path: &str) -> Result<bool, String> {
+    let both = Both::new();
+    let all = answered(path)?;
+    let mut wrong = 0;
+    for (number, (case, answer)) in all.iter().enumerate() {
+        if both.swift.answer(case) != *answer || both.difference(case).is_some() {
+            println!("case {number} differs: {} {}", case.entry as char, readable(&case.bytes));
+            wrong += 1;
+        }
+    }
+    let told: HashSet<usize> = all.iter().flat_map(|(case, answer)| sharp::told(case, answer)).collect();
+    println!("{} cases, {wrong} differ; {} of {} wrong readings told", all.len(), told.len(), WRONGS.len());
+    Ok(wrong == 0)
+}
+
+pub fn choose(generator: Generator, count: u64, path: &str) -> Result<bool, String> {
+    let cases = choose::choose(generator, count);
+    println!("{} cases chosen of {count}", cases.len());
+    let mut out = Vec::new();
+    cases.iter().for_each(|case| write_case(&mut out, case));
+    save(path, &out)
+}
