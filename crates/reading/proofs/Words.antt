@@ -104,6 +104,9 @@ raised-drop l zero = refl
 raised-drop [] (suc k) = refl
 raised-drop (x ∷ l) (suc k) = raised-drop l k
 
+pub raised-long : (w l : List ℕ) → startsWith (raised w) (raised l) ≡ true → length w ≤ length l
+raised-long w l e = omega (arith, starts-long (raised w) (raised l) e, raised-length w, raised-length l)
+
 pub raised-rest : (w l : List ℕ) (p : ℕ) → startsWith w (drop p (raised l)) ≡ startsWith w (raised (take (length l - p) (drop p l)))
 raised-rest w l p = ap (startsWith w) (raised-drop l p ∙ ap raised (sym (rest-is l p)))
 

@@ -1,0 +1,3 @@
+pub mod Tags
+pub mod Sides
+pub mod Cases

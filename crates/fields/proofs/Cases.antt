@@ -1,0 +1,100 @@
+-- Document 01's cases of POP3 answers and IMAP appends, and cases that are easily missed: the definitions, run.
+-- Assumes nothing.
+use mathlib.Core.Path.{_≡_, refl}
+use mathlib.Core.Bool.{true, false}
+use mathlib.Core.List.{[], _∷_, _++_}
+use Rattle.classes.specs.Classes.{upperOf, isLetter, isUpper, isWhite, isBlank, isPopWhite, isDigit}
+use Rattle.reading.specs.Bytes.{startsWith, same, endsWith, raised, first, firstPlace, holds, stands, found, contains}
+use Rattle.reading.specs.Text.{text}
+use Rattle.fields.specs.Imap.{appendFollows, isAppend, dark, trimmed, braced, fromBrace, sizeOf, appendSize, holdsColon}
+use Rattle.fields.specs.Pop3.{stlsAnswer, octets, octetsFollow, numbered, retrAnswer}
+use Rattle.fields.specs.Runs.{runs, lead, last, lastPlace, through, worthBehind, worth}
+
+-- ---- POP3
+
+-- the largest number retrieves and the next does not; zeros in front and bytes behind do no harm; a blank must stand before the number
+pub retrieves :
+    retrAnswer (text "+OK 4294967295 octets")
+    ∷ retrAnswer (text "+OK 4294967296 octets")
+    ∷ retrAnswer (text "+OK 0000000000007 octetsX")
+    ∷ retrAnswer (text "+OK12 octets")
+    ∷ []
+    ≡ true ∷ false ∷ true ∷ false ∷ []
+unfolding retrAnswer numbered octets octetsFollow worth worthBehind lead runs isPopWhite isDigit startsWith
+retrieves = refl
+
+-- white space on both sides of the number, of four kinds; a number must stand there
+pub further-retrieves :
+    retrAnswer (text "+OK 1 octets tls")
+    ∷ retrAnswer (text "+OK\t\r1\n octets")
+    ∷ retrAnswer (text "+OK 0octets")
+    ∷ retrAnswer (text "+OK octets")
+    ∷ retrAnswer (text "+OK 1 Octets")
+    ∷ retrAnswer (text "+ok 1 octets")
+    ∷ retrAnswer (text "+OK" ++ (11 ∷ text "1 octets"))
+    ∷ []
+    ≡ true ∷ true ∷ false ∷ false ∷ false ∷ false ∷ false ∷ []
+unfolding retrAnswer numbered octets octetsFollow worth worthBehind lead runs isPopWhite isDigit startsWith
+further-retrieves = refl
+
+-- "tls" in any case, behind +OK
+pub tls-answers :
+    stlsAnswer (text "+OK x tLs")
+    ∷ stlsAnswer (text "+OK 1 octets tls")
+    ∷ stlsAnswer (text "+OKTLS")
+    ∷ stlsAnswer (text "+OK t ls")
+    ∷ stlsAnswer (text "-ERR tls")
+    ∷ []
+    ≡ true ∷ true ∷ true ∷ false ∷ false ∷ []
+unfolding stlsAnswer contains found stands first firstPlace startsWith raised upperOf isLetter isUpper
+tls-answers = refl
+
+-- ---- IMAP
+
+-- a tag and blanks, one each at least, then APPEND, exactly
+pub appends :
+    isAppend (text "a APPEND x")
+    ∷ isAppend (text "a\t APPENDX")
+    ∷ isAppend (text "aAPPEND")
+    ∷ isAppend (text " APPEND")
+    ∷ isAppend (text "a b APPEND")
+    ∷ isAppend (text "a append")
+    ∷ isAppend (text "a" ++ (11 ∷ text "APPEND"))
+    ∷ isAppend (text "a" ++ (11 ∷ text " APPEND"))
+    ∷ isAppend (text "")
+    ∷ []
+    ≡ true ∷ true ∷ false ∷ false ∷ false ∷ false ∷ false ∷ false ∷ false ∷ []
+unfolding isAppend appendFollows lead runs isWhite isBlank startsWith
+appends = refl
+
+-- the last { opens the size, and bytes may stand behind its }; a sign or no digit is 0; so is 2^64, but not the number below it
+pub sizes :
+    appendSize (text "{10}}")
+    ∷ appendSize (text "{10+}")
+    ∷ appendSize (text "{}")
+    ∷ appendSize (text "{18446744073709551616}")
+    ∷ appendSize (text "{18446744073709551615}")
+    ∷ []
+    ≡ 10 ∷ 0 ∷ 0 ∷ 0 ∷ 18446744073709551615 ∷ []
+unfolding appendSize sizeOf trimmed through dark fromBrace braced worth worthBehind last lastPlace holds lead runs isWhite isDigit endsWith same startsWith
+sizes = refl
+
+-- white space behind, two pairs of braces, bytes between two }, no closing brace, none that opens, nothing
+pub further-sizes :
+    appendSize (text "a APPEND x {11} \t\r\n" ++ (11 ∷ 12 ∷ []))
+    ∷ appendSize (text "{3} {07}")
+    ∷ appendSize (text "{3}x}")
+    ∷ appendSize (text "{3} {}")
+    ∷ appendSize (text "{3")
+    ∷ appendSize (text "3}")
+    ∷ appendSize (text " ")
+    ∷ []
+    ≡ 11 ∷ 7 ∷ 3 ∷ 0 ∷ 0 ∷ 0 ∷ 0 ∷ []
+unfolding appendSize sizeOf trimmed through dark fromBrace braced worth worthBehind last lastPlace holds lead runs isWhite isDigit endsWith same startsWith
+further-sizes = refl
+
+pub colons :
+    holdsColon (text "T: u\r\n") ∷ holdsColon (text ":") ∷ holdsColon (text "b NOOP\r\n") ∷ []
+    ≡ true ∷ true ∷ false ∷ []
+unfolding holdsColon contains found stands first firstPlace startsWith
+colons = refl

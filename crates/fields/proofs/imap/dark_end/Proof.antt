@@ -1,0 +1,39 @@
+-- `fields::imap::dark_end` meets its contract: a search that has come down to n. Assumes nothing.
+use mathlib.Core.Path.{sym, ap, _∙_}
+use mathlib.Core.Bool.{not}
+use native.Mathlib.Omega.{arith}
+use borrow.Author.Needs.{needs}
+use Rattle.fields.specs.Imap.{dark}
+use Rattle.fields.proofs.Last.{Back, back-none-yet, back-on, back-through, back-through-none}
+use Rattle.fields.proofs.imap.dark_end.Statement.{statement}
+use Rattle.fields.proofs.imap.dark_end.Tie as tie
+
+abbrev Inv-loop : tie.InvT-loop
+Inv-loop l n₀ n = Back (dark l) l n
+
+abbrev μ-loop : tie.MeasureT-loop
+μ-loop l n₀ n = n
+
+returns : tie.Need-returns Inv-loop μ-loop
+unfolding dark
+returns c = back-through (c .before .before .before .before .loop .inv) (c .before .before .before .loop-test .taken) (ap not (sym (c .before .is-white .ensures)) ∙ c .if1 .taken)
+
+loop-again : tie.Need-loop-again Inv-loop μ-loop
+unfolding dark
+loop-again c = back-on (c .before .before .before .before .loop .inv) (c .before .before .before .loop-test .taken) (ap not (sym (c .before .is-white .ensures)) ∙ c .if1 .left)
+
+pub dark-end-spec : {M : Type 1} → statement M
+dark-end-spec =
+    tie.close
+    (tie.spec
+    Inv-loop
+    μ-loop
+    (λ c. back-none-yet _ _)
+    (λ c. search needs)
+    (λ c. omega (arith, c .before .before .loop .inv .within))
+    (λ c _. search needs)
+    returns
+    (λ c. search needs)
+    (λ c. search needs)
+    loop-again
+    (λ c. back-through-none (c .before .loop .inv) (c .loop-test .left)))

@@ -1,0 +1,38 @@
+-- `fields::runs::find_last` meets its contract: a search that has come down to n. Assumes nothing.
+use mathlib.Core.Path.{sym}
+use native.Mathlib.Omega.{arith}
+use borrow.Author.Needs.{needs}
+use borrow.Author.Tests.{eq-eqb, ne-eqb}
+use Rattle.reading.specs.Bytes.{holds}
+use Rattle.fields.proofs.Last.{Back, back-none-yet, back-here, back-on, back-in-vain}
+use Rattle.fields.proofs.runs.find_last.Statement.{statement}
+use Rattle.fields.proofs.runs.find_last.Tie as tie
+
+abbrev Inv-loop : tie.InvT-loop
+Inv-loop l b n₀ n = Back (holds b l) l n
+
+abbrev μ-loop : tie.MeasureT-loop
+μ-loop l b n₀ n = n
+
+returns : tie.Need-returns Inv-loop μ-loop
+unfolding holds
+returns c = sym (back-here (c .before .before .before .loop .inv) (c .before .before .loop-test .taken) (eq-eqb _ _ (c .if1 .taken)))
+
+loop-again : tie.Need-loop-again Inv-loop μ-loop
+unfolding holds
+loop-again c = back-on (c .before .before .before .loop .inv) (c .before .before .loop-test .taken) (ne-eqb _ _ (c .if1 .left))
+
+pub find-last-spec : {M : Type 1} → statement M
+find-last-spec =
+    tie.close
+    (tie.spec
+    Inv-loop
+    μ-loop
+    (λ c. back-none-yet _ _)
+    (λ c. search needs)
+    (λ c. omega (arith, c .before .before .loop .inv .within))
+    returns
+    (λ c. search needs)
+    (λ c. search needs)
+    loop-again
+    (λ c. sym (back-in-vain (c .before .loop .inv) (c .loop-test .left))))

@@ -1,0 +1,25 @@
+-- `fields::smtp::starts_with_helo` meets its contract. Assumes nothing.
+use mathlib.Core.Path.{sym, _∙_}
+use borrow.Author.Needs.{needs}
+use Rattle.fields.specs.Smtp.{startsWithHelo}
+use Rattle.fields.proofs.smtp.starts_with_helo.Statement.{statement}
+use Rattle.fields.proofs.smtp.starts_with_helo.Tie as tie
+
+returns : tie.Need-returns
+unfolding startsWithHelo
+returns c = rw (sym (c .before .starts-with-any-case .ensures) ∙ c .if1 .taken)
+
+returns-2 : tie.Need-returns-2
+unfolding startsWithHelo
+returns-2 c = rw (sym (c .before .before .before .starts-with-any-case .ensures) ∙ c .before .before .if1 .left) (c .starts-with-any-case2 .ensures)
+
+pub starts-with-helo-spec : {M : Type 1} → statement M
+starts-with-helo-spec =
+    tie.close
+    (tie.spec
+    (λ c. search needs)
+    (λ c _. search needs)
+    returns
+    (λ c. search needs)
+    (λ c _. search needs)
+    returns-2)
