@@ -1,0 +1,2 @@
+// The four entries' sessions.
+mod common;
