@@ -1,2 +1,12 @@
 pub mod Machines
+pub mod Readings
+pub mod Steps
+pub mod Lines
+pub mod Pairs
+pub mod MailTurns
+pub mod HeadTurns
+pub mod Parting
+pub mod SmtpTurns
+pub mod StatusTurns
+pub mod Answers
 pub mod Cases

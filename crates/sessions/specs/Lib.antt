@@ -5,3 +5,4 @@ pub mod Smtp
 pub mod Pop3
 pub mod Imap
 pub mod Sessions
+pub mod Walks

@@ -1,0 +1,22 @@
+-- The entries: 2 first, then what the session comes to.
+-- Assumes nothing.
+use mathlib.Core.Path.{_≡_}
+use mathlib.Core.List.{List}
+use Prim.Native.Nat.{ℕ, _≤_, _<_}
+use lib.ListN.{length}
+use borrow.Author.Tests.{lt-ltb, le-ltb}
+use Rattle.events.specs.Table.{Final}
+use Rattle.events.specs.declared.Answer.{Answer}
+use Rattle.events.specs.declared.Outcome.the-variants.{TooLong}
+use Rattle.sessions.specs.Phases.{Phase, reads}
+use Rattle.sessions.specs.Sessions.{limit, session, settle, answer}
+use Rattle.sessions.specs.Walks.{finalOf}
+
+module _ (start : Phase) (s t : List ℕ) where
+  pub too-long : (a : Answer) → limit < length s → (a .result ≡ TooLong) × (a .place ≡ 0) × (a .count ≡ 0) → finalOf t a ≡ answer start t s
+  unfolding answer
+  too-long a h w = rw (lt-ltb limit (length s) h, w .0, w .1, w .2)
+
+  pub in-limit : (f : Final) → length s ≤ limit → f ≡ settle t 0 (session (reads start) 0 s) → f ≡ answer start t s
+  unfolding answer
+  in-limit f h w = rw (le-ltb limit (length s) h) w

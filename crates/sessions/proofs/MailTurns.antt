@@ -1,0 +1,175 @@
+-- What each phase of a mail does with its piece, as the walks meet it.
+-- Assumes nothing.
+use mathlib.Core.Path.{_≡_, refl, sym, ap, _∙_}
+use mathlib.Core.Bool.{true, false}
+use mathlib.Core.List.{List, [], _∷_}
+use Prim.Native.Nat.{ℕ, zero, suc, _+_, _-_, _≤_, _<_}
+use native.Mathlib.Omega.{arith}
+use lib.ListN.{length}
+use borrow.Author.Tests.{lt-ltb, le-ltb}
+use Rattle.events.specs.Events.{ev, bodyStart, bodyLine, bodyStop, sizedBody, partBody}
+use Rattle.events.specs.declared.Answer.{Answer}
+use Rattle.events.specs.declared.Encoding.{Encoding}
+use Rattle.events.specs.declared.Encoding.the-variants.{Unsaid}
+use Rattle.events.specs.declared.Log.{Log}
+use Rattle.events.specs.declared.Outcome.the-variants.{BadDelimiter}
+use Rattle.fields.specs.Common.{part, unknown, dashBdry}
+use Rattle.reading.specs.Bytes.{startsWith, same}
+use Rattle.reading.specs.Reading.{Need, crlf}
+use Rattle.sessions.specs.Machine.{Reaction}
+use Rattle.sessions.specs.Mail.{dotLine, hyphens, afterMail, rest, literalBody, held, whole, contentLength, outermost, byRest, skip, lastLine, popped, onText, onLiteral, onOpened, onContent, onBetween, onSkipping, onResting}
+use Rattle.sessions.specs.Phases.{Phase, State, reads, wants, then, stop, closing, head, text, literal, opened, content, between, skipping, resting}
+use Rattle.sessions.specs.Sessions.{reacts}
+use Rattle.sessions.specs.Walks.{Ends, Stopped, Pair, NoPair, Notes, goes, Walks, piece, Lies, Begun}
+use Rattle.sessions.specs.declared.common.Boundary.{Boundary}
+use Rattle.sessions.specs.declared.common.Mail.{Mail}
+use Rattle.sessions.specs.declared.common.Mail.the-variants.{Smtp, Pop3, Imap}
+use Rattle.sessions.specs.declared.common.Noted.the-variants as noted
+use Rattle.sessions.specs.declared.common.Walk.{Walk}
+use Rattle.sessions.specs.declared.common.Walk.the-variants as walk
+use Rattle.sessions.proofs.Readings.{piece-length}
+use Rattle.sessions.proofs.Steps as steps
+
+-- a piece that a phase turns into a reaction
+pub read-as : {s t : List ℕ} {log : Log} {to : ℕ → State} {at e : ℕ} {r : Walk} {u : List ℕ} (ph : Phase) {re : Reaction State}
+    → Ends (wants ph) s at e → reacts ph at (part s at e) ≡ re → Walks s t log e re to r u → Walks s t log at (goes (reads ph)) to r u
+read-as ph d q w = steps.read ph d (rw q w)
+
+module _ {nd : Need} {s : List ℕ} {at e : ℕ} (d : Ends nd s at e) where
+  pub behind : at + length (part s at e) ≡ e
+  behind = omega (arith, d .long, d .on)
+
+  -- ---- lines of a mail with no boundary
+  pub text-dot : (m : Mail) (c : Encoding) → same dotLine (part s at e) ≡ true → reacts (text m c) at (part s at e) ≡ record { events = ev bodyStop at 0 Unsaid ∷ []; next = afterMail m e }
+  unfolding reacts onText
+  text-dot m c h = rw (h, behind)
+
+  pub text-line : (m : Mail) (c : Encoding) → same dotLine (part s at e) ≡ false → reacts (text m c) at (part s at e) ≡ then (ev bodyLine at (e - at) c ∷ []) (text m c)
+  unfolding reacts onText
+  text-line m c h = rw (h, d .long)
+
+  -- ---- so many bytes
+  pub literal-all : (c : Encoding) (n : ℕ) → reacts (literal c n) at (part s at e) ≡ then (whole sizedBody c at (e - at)) closing
+  unfolding reacts onLiteral
+  literal-all c n = rw (d .long)
+
+  -- ---- a content
+  pub content-all : (m : Mail) (c : Encoding) (b : List ℕ) (os : List (List ℕ)) (n : ℕ) → n ≡ e - at - (length b + 4) → reacts (content m c b os) at (part s at e) ≡ then (whole partBody c at n) (between m b os)
+  unfolding reacts onContent contentLength
+  content-all m c b os n h = rw (d .long, ← h)
+
+  -- ---- lines behind a close
+  pub skipping-last : (m : Mail) (b : List ℕ) (os : List (List ℕ)) → lastLine m (outermost b os) (part s at e) ≡ true → reacts (skipping m b os) at (part s at e) ≡ goes (popped m os e)
+  unfolding reacts onSkipping
+  skipping-last m b os h = rw (h, behind)
+
+  pub skipping-on : (m : Mail) (b : List ℕ) (os : List (List ℕ)) → lastLine m (outermost b os) (part s at e) ≡ false → reacts (skipping m b os) at (part s at e) ≡ goes (skip m b os e)
+  unfolding reacts onSkipping
+  skipping-on m b os h = rw (h, behind)
+
+  pub resting-all : (m : Mail) (b : List ℕ) (os : List (List ℕ)) (n : ℕ) → reacts (resting m b os n) at (part s at e) ≡ goes (popped m os e)
+  unfolding reacts onResting
+  resting-all m b os n = rw behind
+
+-- ---- two bytes
+module _ {s : List ℕ} {at : ℕ} where
+  pub opened-crlf : (m : Mail) (b : List ℕ) (os : List (List ℕ)) → Pair s at crlf → reacts (opened m b os) at (part s at (at + 2)) ≡ then [] (head m unknown (b ∷ os))
+  unfolding reacts onOpened same startsWith
+  opened-crlf m b os p = rw (p .is)
+
+  pub opened-hyphens : (m : Mail) (b : List ℕ) (os : List (List ℕ)) → Pair s at hyphens → reacts (opened m b os) at (part s at (at + 2)) ≡ stop [] BadDelimiter at
+  unfolding reacts onOpened same startsWith
+  opened-hyphens m b os p = rw (p .is)
+
+  pub opened-other : (m : Mail) (b : List ℕ) (os : List (List ℕ)) → NoPair s at → reacts (opened m b os) at (part s at (at + 2)) ≡ stop [] BadDelimiter at
+  unfolding reacts onOpened
+  opened-other m b os p = rw (p .no-crlf)
+
+  pub between-crlf : (m : Mail) (b : List ℕ) (os : List (List ℕ)) → Pair s at crlf → reacts (between m b os) at (part s at (at + 2)) ≡ then [] (head m unknown (b ∷ os))
+  unfolding reacts onBetween same startsWith
+  between-crlf m b os p = rw (p .is)
+
+  pub between-hyphens : (m : Mail) (b : List ℕ) (os : List (List ℕ)) → Pair s at hyphens → reacts (between m b os) at (part s at (at + 2)) ≡ goes (skip m b os (at + 2))
+  unfolding reacts onBetween same startsWith
+  between-hyphens m b os p = rw (p .is)
+
+  pub between-other : (m : Mail) (b : List ℕ) (os : List (List ℕ)) → NoPair s at → reacts (between m b os) at (part s at (at + 2)) ≡ stop [] BadDelimiter at
+  unfolding reacts onBetween
+  between-other m b os p = rw (p .no-crlf, p .no-hyphens)
+
+-- ---- bodies at once
+pub whole-none : (kind : ℕ) (c : Encoding) (at end : ℕ) → at ≡ end → whole kind c at (end - at) ≡ ev bodyStop end 0 Unsaid ∷ []
+unfolding whole held
+whole-none kind c at end h =
+    let n : end - at ≡ 0 = omega arith in
+    let k : at + 0 ≡ end = omega arith in
+    rw (n, k)
+
+held-some : (kind : ℕ) (c : Encoding) (at n : ℕ) → 0 < n → held kind c at n ≡ ev kind at n c ∷ []
+unfolding held
+held-some kind c at zero h = absurd (omega arith)
+held-some kind c at (suc n) h = refl
+
+pub whole-some : (kind : ℕ) (c : Encoding) (at end : ℕ) → at ≤ end → (at ≡ end → ⊥) → whole kind c at (end - at) ≡ ev kind at (end - at) c ∷ ev bodyStop end 0 Unsaid ∷ []
+unfolding whole
+whole-some kind c at end h n =
+    let k : at + (end - at) ≡ end = omega arith in
+    rw (held-some kind c at (end - at) (omega arith), k)
+
+-- ---- a literal's rest
+pub literal-none : (c : Encoding) (at n : ℕ) → n ≡ 0 → literalBody c at n ≡ then (ev bodyStart at 0 Unsaid ∷ ev bodyStop at 0 Unsaid ∷ []) closing
+unfolding literalBody
+literal-none c at n h = rw h
+
+pub literal-some : (c : Encoding) (at n : ℕ) → 0 < n → literalBody c at n ≡ then (ev bodyStart at 0 Unsaid ∷ []) (literal c (n - 1))
+unfolding literalBody
+literal-some c at zero h = absurd (omega arith)
+literal-some c at (suc n) h = let k : suc n - 1 ≡ n = omega arith in rw k
+
+rest-if : (m : Mail) (b : List ℕ) (os : List (List ℕ)) (n : ℕ) → 0 < n → n < length (outermost b os) → byRest m b os n ≡ reads (resting m b os (n - 1))
+unfolding byRest
+rest-if m b os zero h g = absurd (omega arith)
+rest-if m b os (suc n) h g = let k : suc n - 1 ≡ n = omega arith in rw (lt-ltb (suc n) (length (outermost b os)) g, k)
+
+line-if : (m : Mail) (b : List ℕ) (os : List (List ℕ)) (n : ℕ) → (0 < n → length (outermost b os) ≤ n) → byRest m b os n ≡ reads (skipping m b os)
+unfolding byRest
+line-if m b os zero h = refl
+line-if m b os (suc n) h = rw (le-ltb (suc n) (length (outermost b os)) (h (omega arith)))
+
+module _ (m : Mail) (b : List ℕ) (os : List (List ℕ)) (at : ℕ) where
+  pub skip-rest : 0 < rest m at → rest m at < length (outermost b os) → skip m b os at ≡ reads (resting m b os (rest m at - 1))
+  unfolding skip
+  skip-rest h g = rest-if m b os (rest m at) h g
+
+  pub skip-line : (0 < rest m at → length (outermost b os) ≤ rest m at) → skip m b os at ≡ reads (skipping m b os)
+  unfolding skip
+  skip-line h = line-if m b os (rest m at) h
+
+-- a literal's body begins with its start, whatever is left
+pub literal-full : {s t : List ℕ} {log : Log} {to : ℕ → State} {at : ℕ} {a : Answer} {u : List ℕ} (c : Encoding) (n : ℕ) → Notes t log (ev bodyStart at 0 Unsaid) (noted.Stopped a) u → Walks s t log at (literalBody c at n) to (walk.Stopped a) u
+unfolding literalBody
+literal-full {at = at} c zero p = steps.note-stop (ev bodyStop at 0 Unsaid ∷ []) (reads closing) p
+literal-full c (suc n) p = steps.note-stop [] (reads (literal c n)) p
+
+-- a dash line is the last, whose ever the mail is
+pub last-dash : (m : Mail) (o l : List ℕ) → dashBdry o l ≡ true → true ≡ lastLine m o l
+unfolding lastLine
+last-dash Smtp o l h = rw h
+last-dash Pop3 o l h = rw h
+last-dash (Imap size start) o l h = rw h
+
+-- ---- which read follows behind a close, as the code decides it
+module _ (s : List ℕ) (m : Mail) (b : List ℕ) (os : List (List ℕ)) (at : ℕ) (outer : Boundary) (n : ℕ) (e : n ≡ rest m at) (o : outermost b os ≡ piece s outer) (l : Lies s outer) where
+  outer-long : length (outermost b os) ≡ outer .len
+  outer-long = ap length o ∙ piece-length s outer l
+
+  pub skip-by-rest : 0 < n → n < outer .len → goes (skip m b os at) ≡ then [] (resting m b os (n - 1))
+  skip-by-rest h g = ap goes (skip-rest m b os at (omega arith) (omega (arith, outer-long)) ∙ ap (λ (k : ℕ). reads (resting m b os (k - 1))) (sym e))
+
+  pub skip-by-line : (0 < n → outer .len ≤ n) → goes (skip m b os at) ≡ then [] (skipping m b os)
+  skip-by-line h = ap goes (skip-line m b os at (λ g. let k = h (omega arith) in omega (arith, outer-long)))
+
+pub begun-on : (m : Mail) (i j : ℕ) → Begun m i → i ≤ j → Begun m j
+begun-on Smtp i j h g = tt
+begun-on Pop3 i j h g = tt
+begun-on (Imap size start) i j h g = omega arith

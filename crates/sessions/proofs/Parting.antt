@@ -1,0 +1,159 @@
+-- Parts and what stands behind them: walks whose answer also says whether the multipart goes on.
+-- Assumes nothing.
+use mathlib.Core.Path.{_≡_, refl, _∙_}
+use mathlib.Core.Bool.{true, false}
+use mathlib.Core.List.{List, [], _∷_}
+use mathlib.Core.Option.{Option, none, some}
+use Prim.Native.Nat.{ℕ, _+_, _-_, _≤_, _<_}
+use native.Mathlib.Omega.{arith}
+use lib.Dec.{leb}
+use lib.ListN.{length, drop, length-drop}
+use lib.Seq.{drop-drop}
+use borrow.Author.Tests.{le-leb, lt-leb}
+use Rattle.events.specs.Events.{ev, bodyStart}
+use Rattle.events.specs.declared.Answer.{Answer}
+use Rattle.events.specs.declared.Encoding.the-variants.{Unsaid}
+use Rattle.events.specs.declared.Log.{Log}
+use Rattle.events.specs.declared.Outcome.the-variants.{TooDeep}
+use Rattle.fields.specs.Common.{unknown, bdryBytes}
+use Rattle.fields.specs.declared.common.Bdry.the-variants.{Unsupplied, Of}
+use Rattle.fields.specs.declared.common.Scan.{Scan}
+use Rattle.sessions.specs.Machine.{Reaction}
+use Rattle.sessions.specs.Mail.{afterMail, plainMail, plain, begun, outermost, popped, skip, onPreamble}
+use Rattle.sessions.specs.Phases.{State, reads, head, content, preamble, opened, then}
+use Rattle.sessions.specs.Sessions.{reacts, session, settle}
+use Rattle.sessions.specs.Walks.{Stopped, under, walkLeft, Moved, Walks, Headers, piece, Lies, Within, partedLeft, MovedPart, Parts, Inner}
+use Rattle.sessions.specs.declared.common.Boundary.{Boundary}
+use Rattle.sessions.specs.declared.common.Headed.the-variants as headed
+use Rattle.sessions.specs.declared.common.Mail.{Mail}
+use Rattle.sessions.specs.declared.common.Parted.{Parted}
+use Rattle.sessions.specs.declared.common.Parted.the-variants as parted
+use Rattle.sessions.specs.declared.common.Walk.{Walk}
+use Rattle.sessions.specs.declared.common.Walk.the-variants as walk
+use Rattle.sessions.proofs.Readings.{ended}
+use Rattle.sessions.proofs.Steps.{further}
+
+module _ {s t : List ℕ} {log : Log} {at : ℕ} {m : Mail} {b : List ℕ} {from : List (List ℕ) → Reaction State} {Fits : List (List ℕ) → Type 0} {u : List ℕ} where
+  pub parted-stop : {a : Answer} (to : List (List ℕ) → ℕ → State) → ((os : List (List ℕ)) → Fits os → Walks s t log at (from os) (to os) (walk.Stopped a) u) → Parts s t log at m b from Fits (parted.Stopped a) u
+  parted-stop to w = record { moved = tt; is = λ os f. w os f .is }
+
+  pub parted-next : {p : ℕ} {n : Log} → at < p → p ≤ length s → ((os : List (List ℕ)) → Fits os → Walks s t log at (from os) (λ q. reads (head m unknown (b ∷ os))) (walk.Went p n) u) → Parts s t log at m b from Fits (parted.Next p n) u
+  parted-next h g w = record { moved = (h, g); is = λ os f. w os f .is }
+
+  pub parted-closed : {p : ℕ} {n : Log} → at < p → p ≤ length s → ((os : List (List ℕ)) → Fits os → Walks s t log at (from os) (λ q. skip m b os q) (walk.Went p n) u) → Parts s t log at m b from Fits (parted.Closed p n) u
+  parted-closed h g w = record { moved = (h, g); is = λ os f. w os f .is }
+
+pub preamble-any : (m : Mail) (b : List ℕ) (os : List (List ℕ)) (at : ℕ) (l : List ℕ) → reacts (preamble m b os) at l ≡ then [] (opened m b os)
+unfolding reacts onPreamble
+preamble-any m b os at l = refl
+
+-- ---- and back: what such an answer says as a walk
+module _ {s t : List ℕ} {log : Log} {at : ℕ} {m : Mail} {b : List ℕ} {from : List (List ℕ) → Reaction State} {Fits : List (List ℕ) → Type 0} {u : List ℕ} (os : List (List ℕ)) (f : Fits os) where
+  pub as-next : {p : ℕ} {n : Log} → Parts s t log at m b from Fits (parted.Next p n) u → Walks s t log at (from os) (λ q. reads (head m unknown (b ∷ os))) (walk.Went p n) u
+  as-next w = record { moved = (omega (arith, w .moved .0), w .moved .1); is = w .is os f }
+
+  pub as-closed : {p : ℕ} {n : Log} → Parts s t log at m b from Fits (parted.Closed p n) u → Walks s t log at (from os) (λ q. skip m b os q) (walk.Went p n) u
+  as-closed w = record { moved = (omega (arith, w .moved .0), w .moved .1); is = w .is os f }
+
+  pub as-stopped : {a : Answer} (to : ℕ → State) → Parts s t log at m b from Fits (parted.Stopped a) u → Walks s t log at (from os) to (walk.Stopped a) u
+  as-stopped to w = record { moved = tt; is = w .is os f }
+
+pub inner : {s t : List ℕ} {log : Log} {at : ℕ} {from : List (List ℕ) → Reaction State} {to : List (List ℕ) → ℕ → State} {Fits : List (List ℕ) → Type 0} {r : Walk} {u : List ℕ}
+    → Moved s at r → ((os : List (List ℕ)) → Fits os → Walks s t log at (from os) (to os) r u) → Inner s t log at from to Fits r u
+inner h w = record { moved = h; is = λ os f. w os f .is }
+
+further-part : (s : List ℕ) (i j : ℕ) (r : Parted) → i ≤ j → MovedPart s j r → MovedPart s i r
+further-part s i j (parted.Next p log) h m = (omega arith, m .1)
+further-part s i j (parted.Closed p log) h m = (omega arith, m .1)
+further-part s i j (parted.Stopped a) h m = tt
+
+-- where no level is left, the mail is over
+popped-none : (s v : List ℕ) (m : Mail) (r : Walk) → walkLeft s v (afterMail m) r ≡ walkLeft s v (popped m []) r
+unfolding popped
+popped-none s v m (walk.Went p log) = refl
+popped-none s v m (walk.Stopped a) = refl
+
+-- an inner multipart, as the outer level sees it
+abbrev pub behind : Walk → Parted
+behind (walk.Went p log) = parted.Next p log
+behind (walk.Stopped a) = parted.Stopped a
+
+behind-moved : (s : List ℕ) (i j : ℕ) (r : Walk) → i < j → Moved s j r → MovedPart s i (behind r)
+behind-moved s i j (walk.Went p log) h m = (omega arith, m .1)
+behind-moved s i j (walk.Stopped a) h m = tt
+
+behind-left : (s v : List ℕ) (m : Mail) (b : List ℕ) (os : List (List ℕ)) (r : Walk) → partedLeft s v m b os (behind r) ≡ walkLeft s v (popped m (b ∷ os)) r
+unfolding popped
+behind-left s v m b os (walk.Went p log) = refl
+behind-left s v m b os (walk.Stopped a) = refl
+
+-- ---- a header that begins at `at`, and what follows it
+module _ (s : List ℕ) {t : List ℕ} {log : Log} {at : ℕ} {u : List ℕ} where
+  pub head-stopped : {a : Answer} {to : ℕ → State} → Headers (drop at s) t log at (headed.Stopped a) u → (m : Mail) (os : List (List ℕ)) → Walks s t log at (then [] (head m unknown os)) to (walk.Stopped a) u
+  head-stopped h m os = record { moved = tt; is = h .is m os }
+
+  module _ {k : Scan} {e : ℕ} {n : Log} (h : Headers (drop at s) t log at (headed.Went k e n) u) where
+    pub head-within : at ≤ length s → at + e ≤ length s
+    head-within g = omega (arith, h .moved .1, length-drop at s)
+
+    head-is : (m : Mail) (os : List (List ℕ)) (x : Option (List ℕ)) → bdryBytes (drop at s) (k .boundary) ≡ x
+        → settle u (n .count) (under (begun m (k .encoding) x os (at + e)) (at + e) (drop (at + e) s)) ≡ settle t (log .count) (session (reads (head m unknown os)) at (drop at s))
+    head-is m os x q = rw (← q, ← (drop-drop e at s)) (h .is m os)
+
+    pub head-lies : (o l : ℕ) → at ≤ length s → k .boundary ≡ Of o l → Lies s (record { at = at + o; len = l })
+    head-lies o l g q = omega (arith, rw q at (h .moved .2), length-drop at s)
+
+    bytes-is : (o l : ℕ) → k .boundary ≡ Of o l → bdryBytes (drop at s) (k .boundary) ≡ some (piece s (record { at = at + o; len = l }))
+    bytes-is o l q = rw (q, drop-drop o at s)
+
+    none-is : k .boundary ≡ Unsupplied → bdryBytes (drop at s) (k .boundary) ≡ none
+    none-is q = rw q
+
+    -- no boundary, in a mail
+    pub head-plain : {to : ℕ → State} {r : Walk} {v : List ℕ} (m : Mail) → k .boundary ≡ Unsupplied → Walks s u n (at + e) (plainMail m (k .encoding) (at + e)) to r v → Walks s t log at (then [] (head m unknown [])) to r v
+    unfolding begun plain
+    head-plain {r = r} m q w = record { moved = further s at (at + e) r (omega arith) (w .moved); is = w .is ∙ head-is m [] none (none-is q) }
+
+    -- a boundary, in a mail: the first level
+    pub head-multi : {r : Walk} {v : List ℕ} (m : Mail) (o l : ℕ) → k .boundary ≡ Of o l
+        → Inner s u n (at + e) (λ os. then [] (preamble m (piece s (record { at = at + o; len = l })) os)) (popped m) (Within s (record { at = at + o; len = l }) (record { at = at + o; len = l }) 7) r v
+        → Walks s t log at (then [] (head m unknown [])) (afterMail m) r v
+    unfolding begun outermost
+    head-multi {r} {v} m o l q w =
+        let f : Within s (record { at = at + o; len = l }) (record { at = at + o; len = l }) 7 [] = record { deep = refl; outermost = refl } in
+        record { moved = further s at (at + e) r (omega arith) (w .moved); is = popped-none s v m r ∙ w .is [] f ∙ head-is m [] _ (bytes-is o l q) }
+
+    -- no boundary, in a part
+    pub part-plain : {r : Parted} {v : List ℕ} {Fits : List (List ℕ) → Type 0} (m : Mail) (b : List ℕ) → k .boundary ≡ Unsupplied
+        → Parts s u n (at + e) m b (λ os. then (ev bodyStart (at + e) 0 Unsaid ∷ []) (content m (k .encoding) b os)) (λ os. Unit {0}) r v
+        → Parts s t log at m b (λ os. then [] (head m unknown (b ∷ os))) Fits r v
+    unfolding begun plain
+    part-plain {r} m b q w = record { moved = further-part s at (at + e) r (omega arith) (w .moved); is = λ os f. w .is os tt ∙ head-is m (b ∷ os) none (none-is q) }
+
+    module _ (m : Mail) (b outer : Boundary) (levels o l : ℕ) (q : k .boundary ≡ Of o l) where
+      -- the ninth level
+      pub part-ninth : {a : Answer} → levels ≡ 0 → Stopped TooDeep (at + e) n a → Parts s t log at m (piece s b) (λ os. then [] (head m unknown (piece s b ∷ os))) (Within s b outer levels) (parted.Stopped a) u
+      unfolding begun
+      part-ninth z c = record {
+        moved = tt;
+        is = λ os f.
+            let d : leb 8 (length (piece s b ∷ os)) ≡ true = le-leb 8 (length (piece s b ∷ os)) (omega (arith, f .deep)) in
+            rw (c .result, c .place, c .count) (ended TooDeep (at + e) (at + e) (drop (at + e) s) u (n .count)) ∙ rw d at (head-is m (piece s b ∷ os) _ (bytes-is o l q));
+      }
+
+      -- a deeper one
+      pub part-deeper : (r : Walk) {v : List ℕ} → (levels ≡ 0 → ⊥)
+          → Inner s u n (at + e) (λ os. then [] (preamble m (piece s (record { at = at + o; len = l })) os)) (popped m) (Within s (record { at = at + o; len = l }) outer (levels - 1)) r v
+          → Parts s t log at m (piece s b) (λ os. then [] (head m unknown (piece s b ∷ os))) (Within s b outer levels) (behind r) v
+      unfolding begun outermost
+      part-deeper r {v} z w = record {
+        moved = behind-moved s at (at + e) r (omega (arith, h .moved .0)) (w .moved);
+        is = λ os f.
+            let d : leb 8 (length (piece s b ∷ os)) ≡ false = lt-leb 8 (length (piece s b ∷ os)) (omega (arith, f .deep)) in
+            let i : Within s (record { at = at + o; len = l }) outer (levels - 1) (piece s b ∷ os) = record { deep = omega (arith, f .deep); outermost = f .outermost } in
+            behind-left s v m (piece s b) os r ∙ w .is (piece s b ∷ os) i ∙ rw d at (head-is m (piece s b ∷ os) _ (bytes-is o l q));
+      }
+
+pub outermost-none : (b : List ℕ) → outermost b [] ≡ b
+unfolding outermost
+outermost-none b = refl

@@ -1,0 +1,194 @@
+-- What the answers of the walks say: what is left to do. Of these the entries' contracts use `finalOf` alone.
+-- Assumes nothing.
+use mathlib.Core.Path.{_≡_}
+use mathlib.Core.Bool.{false}
+use mathlib.Core.List.{List, [], _∷_}
+use Prim.Native.Nat.{ℕ, _+_, _-_, _≤_, _<_}
+use lib.ListN.{length, take, drop}
+use Rattle.events.specs.Events.{ev}
+use Rattle.events.specs.Table.{Final, final}
+use Rattle.events.specs.declared.Answer.{Answer}
+use Rattle.events.specs.declared.Encoding.the-variants.{Unsaid}
+use Rattle.events.specs.declared.Event.{Event}
+use Rattle.events.specs.declared.Log.{Log}
+use Rattle.events.specs.declared.Outcome.{Outcome}
+use Rattle.fields.specs.Common.{part, unknown, bdryBytes, Inside}
+use Rattle.reading.specs.Bytes.{same}
+use Rattle.reading.specs.Reading.{Need, aLine, two, crlf, clean, got, fetch}
+use Rattle.sessions.specs.Machine.{Reaction, Ran, before}
+use Rattle.sessions.specs.Mail.{hyphens, begun, skip, outermost}
+use Rattle.sessions.specs.Phases.{Phase, State, reads, head, wants}
+use Rattle.sessions.specs.Sessions.{reacts, session, settle}
+use Rattle.sessions.specs.declared.common.Boundary.{Boundary}
+use Rattle.sessions.specs.declared.common.Headed.{Headed}
+use Rattle.sessions.specs.declared.common.Headed.the-variants as headed
+use Rattle.sessions.specs.declared.common.Lined.{Lined}
+use Rattle.sessions.specs.declared.common.Lined.the-variants as lined
+use Rattle.sessions.specs.declared.common.Mail.{Mail}
+use Rattle.sessions.specs.declared.common.Mail.the-variants.{Smtp, Pop3, Imap}
+use Rattle.sessions.specs.declared.common.Noted.{Noted}
+use Rattle.sessions.specs.declared.common.Noted.the-variants as noted
+use Rattle.sessions.specs.declared.common.Parted.{Parted}
+use Rattle.sessions.specs.declared.common.Parted.the-variants as parted
+use Rattle.sessions.specs.declared.common.Read.{Read}
+use Rattle.sessions.specs.declared.common.Read.the-variants as read
+use Rattle.sessions.specs.declared.common.Two.{Two}
+use Rattle.sessions.specs.declared.common.Two.the-variants as pair
+use Rattle.sessions.specs.declared.common.Walk.{Walk}
+use Rattle.sessions.specs.declared.common.Walk.the-variants as walk
+
+-- an answer and the table then
+abbrev pub finalOf : List ℕ → Answer → Final
+finalOf u a = final u (a .result) (a .place) (a .count)
+
+-- an answer with this result and place, and the events so far
+pub record Stopped (o : Outcome) (p : ℕ) (log : Log) (a : Answer) : Type 0 where
+  pub result : a .result ≡ o
+  pub place : a .place ≡ p
+  pub count : a .count ≡ log .count
+
+-- ---- reads
+
+-- a read at i takes what lies up to j
+pub record Ends (nd : Need) (s : List ℕ) (i j : ℕ) : Type 0 where
+  pub on : i < j
+  pub within : j ≤ length s
+  pub long : length (part s i j) ≡ j - i
+  pub is : fetch nd (drop i s) ≡ got (part s i j) (drop j s)
+
+-- a read at i stops the session: whatever phase asks for it, at whatever place a of the session
+pub record Stops (nd : Need) (s : List ℕ) (i : ℕ) (o : Outcome) : Type 0 where
+  pub is : (ph : Phase) → wants ph ≡ nd → (a : ℕ) (t : List ℕ) (n : ℕ) → final t o a n ≡ settle t n (session (reads ph) a (drop i s))
+
+abbrev pub ReadIs : Need → List ℕ → ℕ → Read → Type 0
+ReadIs nd s i (read.To j) = Ends nd s i j
+ReadIs nd s i (read.Stop o) = Stops nd s i o
+
+pub record Pair (s : List ℕ) (i : ℕ) (l : List ℕ) : Type 0 where
+  pub ends : Ends two s i (i + 2)
+  pub is : part s i (i + 2) ≡ l
+
+pub record NoPair (s : List ℕ) (i : ℕ) : Type 0 where
+  pub ends : Ends two s i (i + 2)
+  pub no-crlf : same crlf (part s i (i + 2)) ≡ false
+  pub no-hyphens : same hyphens (part s i (i + 2)) ≡ false
+
+abbrev pub TwoIs : List ℕ → ℕ → Two → Type 0
+TwoIs s i pair.Crlf = Pair s i crlf
+TwoIs s i pair.Hyphens = Pair s i hyphens
+TwoIs s i pair.Other = NoPair s i
+TwoIs s i (pair.Stop o) = Stops two s i o
+
+-- ---- events
+
+abbrev pub notedLeft : List ℕ → List Event → Ran State → Noted → Final
+notedLeft u es o (noted.Written log) = settle u (log .count) (before es o)
+notedLeft u es o (noted.Stopped a) = finalOf u a
+
+-- an event goes to the table, whatever comes behind it
+pub record Notes (t : List ℕ) (log : Log) (e : Event) (r : Noted) (u : List ℕ) : Type 0 where
+  pub is : (es : List Event) (o : Ran State) → notedLeft u es o r ≡ settle t (log .count) (before (e ∷ es) o)
+
+-- ---- walks
+
+abbrev pub goes : State → Reaction State
+goes st = record { events = []; next = st }
+
+-- a reaction under way, the session being at a
+abbrev pub under : Reaction State → ℕ → List ℕ → Ran State
+under re a l = before (re .events) (session (re .next) a l)
+
+abbrev pub walkLeft : List ℕ → List ℕ → (ℕ → State) → Walk → Final
+walkLeft s u to (walk.Went p log) = settle u (log .count) (session (to p) p (drop p s))
+walkLeft s u to (walk.Stopped a) = finalOf u a
+
+abbrev pub Moved : List ℕ → ℕ → Walk → Type 0
+Moved s at (walk.Went p log) = (at ≤ p) × (p ≤ length s)
+Moved s at (walk.Stopped a) = Unit {0}
+
+-- from a reaction under way at `at` to a state that hangs on the place: what is left to do stays the same
+pub record Walks (s t : List ℕ) (log : Log) (at : ℕ) (from : Reaction State) (to : ℕ → State) (r : Walk) (u : List ℕ) : Type 0 where
+  pub moved : Moved s at r
+  pub is : walkLeft s u to r ≡ settle t (log .count) (under from at (drop at s))
+
+abbrev pub Farther : ℕ → Walk → Type 0
+Farther at (walk.Went p log) = at < p
+Farther at (walk.Stopped a) = Unit {0}
+
+-- a walk from a phase to the same phase, by a byte at least
+pub record Turns (s t : List ℕ) (log : Log) (at : ℕ) (ph : Phase) (r : Walk) (u : List ℕ) : Type 0 where
+  pub walks : Walks s t log at (goes (reads ph)) (λ p. reads ph) r u
+  pub farther : Farther at r
+
+-- a phase that lists each of its lines, clean, under a kind
+pub record Lists (kind at : ℕ) (ph : Phase) : Type 0 where
+  pub wants : wants ph ≡ aLine
+  pub behind : List ℕ → List Event
+  pub is : (l : List ℕ) → reacts ph at l .events ≡ ev kind at (length (clean l)) Unsaid ∷ behind l
+
+pub record LinedTo (s t : List ℕ) (log : Log) (at kind end to : ℕ) (next : Log) (u : List ℕ) : Type 0 where
+  pub ends : Ends aLine s at to
+  pub from : at ≤ end
+  pub within : end ≤ to
+  pub clean : part s at end ≡ clean (part s at to)
+  pub is : (ph : Phase) (h : Lists kind at ph) → settle u (next .count) (under (record { events = h .behind (part s at to); next = reacts ph at (part s at to) .next }) to (drop to s)) ≡ settle t (log .count) (session (reads ph) at (drop at s))
+
+pub record LinedStop (s t : List ℕ) (log : Log) (at kind : ℕ) (a : Answer) (u : List ℕ) : Type 0 where
+  pub is : (ph : Phase) → Lists kind at ph → finalOf u a ≡ settle t (log .count) (session (reads ph) at (drop at s))
+
+abbrev pub LinedIs : List ℕ → List ℕ → Log → ℕ → ℕ → Lined → List ℕ → Type 0
+LinedIs s t log at kind (lined.To end to next) u = LinedTo s t log at kind end to next u
+LinedIs s t log at kind (lined.Stopped a) u = LinedStop s t log at kind a u
+
+-- ---- headers: h is the buffer from the header's first byte on, the session's byte `base`
+
+abbrev pub headedLeft : List ℕ → ℕ → List ℕ → Mail → List (List ℕ) → Headed → Final
+headedLeft h base u m os (headed.Went k e log) =
+    settle u (log .count) (under (begun m (k .encoding) (bdryBytes h (k .boundary)) os (base + e)) (base + e) (drop e h))
+headedLeft h base u m os (headed.Stopped a) = finalOf u a
+
+abbrev pub MovedHead : List ℕ → Headed → Type 0
+MovedHead h (headed.Went k e log) = (0 < e) × (e ≤ length h) × Inside h (k .boundary)
+MovedHead h (headed.Stopped a) = Unit {0}
+
+pub record Headers (h t : List ℕ) (log : Log) (base : ℕ) (r : Headed) (u : List ℕ) : Type 0 where
+  pub moved : MovedHead h r
+  pub is : (m : Mail) (os : List (List ℕ)) → headedLeft h base u m os r ≡ settle t (log .count) (session (reads (head m unknown os)) base h)
+
+-- ---- multiparts
+
+abbrev pub piece : List ℕ → Boundary → List ℕ
+piece s b = take (b .len) (drop (b .at) s)
+
+abbrev pub Lies : List ℕ → Boundary → Type 0
+Lies s b = b .at + b .len ≤ length s
+
+-- a mail's header begins where the walk is or before
+abbrev pub Begun : Mail → ℕ → Type 0
+Begun Smtp at = Unit {0}
+Begun Pop3 at = Unit {0}
+Begun (Imap size start) at = start ≤ at
+
+-- b is open inside the boundaries os, so many levels are left below it, and outer is the outermost
+pub record Within (s : List ℕ) (b outer : Boundary) (levels : ℕ) (os : List (List ℕ)) : Type 0 where
+  pub deep : levels + length os ≡ 7
+  pub outermost : outermost (piece s b) os ≡ piece s outer
+
+abbrev pub partedLeft : List ℕ → List ℕ → Mail → List ℕ → List (List ℕ) → Parted → Final
+partedLeft s u m b os (parted.Next p log) = settle u (log .count) (session (reads (head m unknown (b ∷ os))) p (drop p s))
+partedLeft s u m b os (parted.Closed p log) = settle u (log .count) (session (skip m b os p) p (drop p s))
+partedLeft s u m b os (parted.Stopped a) = finalOf u a
+
+abbrev pub MovedPart : List ℕ → ℕ → Parted → Type 0
+MovedPart s at (parted.Next p log) = (at < p) × (p ≤ length s)
+MovedPart s at (parted.Closed p log) = (at < p) × (p ≤ length s)
+MovedPart s at (parted.Stopped a) = Unit {0}
+
+pub record Parts (s t : List ℕ) (log : Log) (at : ℕ) (m : Mail) (b : List ℕ) (from : List (List ℕ) → Reaction State) (Fits : List (List ℕ) → Type 0) (r : Parted) (u : List ℕ) : Type 0 where
+  pub moved : MovedPart s at r
+  pub is : (os : List (List ℕ)) → Fits os → partedLeft s u m b os r ≡ settle t (log .count) (under (from os) at (drop at s))
+
+-- a walk inside the open boundaries os
+pub record Inner (s t : List ℕ) (log : Log) (at : ℕ) (from : List (List ℕ) → Reaction State) (to : List (List ℕ) → ℕ → State) (Fits : List (List ℕ) → Type 0) (r : Walk) (u : List ℕ) : Type 0 where
+  pub moved : Moved s at r
+  pub is : (os : List (List ℕ)) → Fits os → walkLeft s u (to os) r ≡ settle t (log .count) (under (from os) at (drop at s))

@@ -1,0 +1,58 @@
+// POP3 sessions, the server's side. Ports `s2c_parser_inner` of pop3.rs.
+ghost use mathlib.Core.Path.{_≡_};
+ghost use mathlib.Core.List.{[]};
+ghost use Prim.Native.Nat.{_≤_};
+ghost use lib.ListN.{length};
+ghost use Rattle.sessions.specs.Phases.{reads, status, then};
+ghost use Rattle.sessions.specs.Sessions.{limit, session, settle};
+ghost use Rattle.sessions.specs.Walks.{finalOf, Turns};
+use crate::common::Lined;
+use crate::common::Mail;
+use crate::common::Walk;
+use crate::common::clean_line;
+use crate::common::read_mail;
+use crate::common::stopped;
+use events::Answer;
+use events::Log;
+use events::Outcome;
+use events::SERVER_LINE;
+use fields::pop3::retr_answer;
+use fields::pop3::stls_answer;
+
+pub fn server(s: &[u8], table: &mut [u32]) -> Answer
+    requires { ⌜ length (now s) ≤ limit ⌝ }
+    ensures { λ r. ⌜ finalOf (now (table .exit)) r ≡ settle (now (table .entry)) 0 (session (reads status) 0 (now (s .entry))) ⌝ }
+{
+    let mut p = 0;
+    let mut n = Log { count: 0 };
+    loop {
+        match status(s, p, table, n) {
+            Walk::Stopped(a) => {
+                return a;
+            }
+            Walk::Went(to, next) => {
+                p = to;
+                n = next;
+            }
+        }
+    }
+}
+
+// A status line, and the mail that it may announce.
+fn status(s: &[u8], at: usize, table: &mut [u32], log: Log) -> Walk
+    requires { ⌜ (length (now s) ≤ limit) × (at ≤ length (now s)) ⌝ }
+    ensures { λ r. ⌜ Turns (now (s .entry)) (now (table .entry)) log at status r (now (table .exit)) ⌝ }
+{
+    match clean_line(s, at, SERVER_LINE, table, log) {
+        Lined::Stopped(a) => Walk::Stopped(a),
+        Lined::To(end, e, next) => {
+            if stls_answer(&s[at..end]) {
+                return Walk::Stopped(stopped(Outcome::Done, e, next));
+            }
+            if retr_answer(&s[at..end]) {
+                return read_mail(s, e, Mail::Pop3, table, next);
+            }
+            Walk::Went(e, next)
+        }
+    }
+}
