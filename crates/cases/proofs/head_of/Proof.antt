@@ -1,0 +1,27 @@
+-- `cases::head_of` meets its contract. Assumes nothing.
+use borrow.Author.Needs.{needs}
+use borrow.Author.Tests.{eq-eqb, ne-eqb}
+use Rattle.cases.specs.Cases.{headOf}
+use Rattle.cases.proofs.head_of.Statement.{statement}
+use Rattle.cases.proofs.head_of.Tie as tie
+
+returns : tie.Need-returns
+unfolding headOf
+returns c = rw (← c .before .before .before .number .ensures, ← c .before .before .number2 .ensures, eq-eqb _ _ (c .before .if1 .taken))
+
+returns-2 : tie.Need-returns-2
+unfolding headOf
+returns-2 c = rw (← c .before .before .before .number .ensures, ← c .before .before .number2 .ensures, ne-eqb _ _ (c .before .if1 .left))
+
+pub head-of-spec : {M : Type 1} → statement M
+head-of-spec =
+    tie.close
+    (tie.spec
+    (λ c _. search needs)
+    (λ c _. search needs)
+    (λ c. search needs)
+    (λ c. search needs)
+    returns
+    (λ c. search needs)
+    (λ c. search needs)
+    returns-2)

@@ -1,0 +1,31 @@
+-- `listing::put` meets its contract: i bytes are copied. Assumes nothing.
+use Prim.Native.Nat.{_-_}
+use native.Mathlib.Omega.{arith}
+use lib.ListN.{length}
+use borrow.Author.Needs.{needs}
+use Rattle.listing.proofs.Puts.{Copied, copied-none-yet, copied-length, copied-on, copied-all}
+use Rattle.listing.proofs.put.Statement.{statement}
+use Rattle.listing.proofs.put.Tie as tie
+
+abbrev Inv-loop : tie.InvT-loop
+Inv-loop out₀ at text i₀ out i = Copied out₀ at text i out
+
+abbrev μ-loop : tie.MeasureT-loop
+μ-loop out₀ at text i₀ out i = length text - i
+
+pub put-spec : {M : Type 1} → statement M
+put-spec =
+    tie.close
+    (tie.spec
+    Inv-loop
+    μ-loop
+    (λ c. copied-none-yet (c .pre))
+    (λ c. search needs)
+    (λ c. search needs)
+    (λ c. omega (arith, copied-length (c .before .before .loop .inv), c .before .before .before .pre))
+    (λ c. search needs)
+    (λ c. omega arith)
+    (λ c. copied-on (c .before .before .loop .inv) (c .before .loop-test .taken))
+    (λ c. omega (arith, c .before .loop .inv .part, c .before .loop .inv .room))
+    (λ c. copied-length (c .before .loop .inv))
+    (λ c. copied-all (c .before .loop .inv) (c .loop-test .left)))
