@@ -4,6 +4,8 @@ use crate::Words;
 use crate::case::{Answer, Bytes, Case, ENOUGH};
 use crate::judge::{Judge, PlainJudge, SwiftJudge};
 use crate::packet::Packet;
+use crate::reading;
+use crate::wrong::Wrong;
 use std::io::{BufWriter, Read, Write};
 use std::time::{Duration, Instant};
 
@@ -48,12 +50,13 @@ pub fn cases(path: &str) -> Result<Vec<Case>, String> {
     Ok(cases)
 }
 
-pub fn batch(path: &str) -> Result<bool, String> {
+/// By the Rust, or by the second reading, which answers on any bytes.
+pub fn batch(path: &str, second: bool) -> Result<bool, String> {
     let judge = SwiftJudge::new(true);
     let mut out = BufWriter::new(std::io::stdout().lock());
     let mut judged = true;
     for case in cases(path)? {
-        let answer = judge.answer(&case);
+        let answer = if second { reading::answer(&case, Wrong::Nothing) } else { judge.answer(&case) };
         judged &= !matches!(answer, Answer::Unjudged(_));
         write!(out, "{answer}").map_err(|why| why.to_string())?;
     }

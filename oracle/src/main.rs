@@ -35,7 +35,7 @@ use std::process::ExitCode;
 
 const USAGE: &str = "usage:
   oracle list [--slots N] [--plain] [--no-overlays] [--any-length] a session from standard input
-  oracle batch FILE                                                listings of a batch file
+  oracle batch FILE [--second]                                     listings of a batch file; by the second reading
   oracle bench ENTRY FILE [--plain]                                times one large session
   oracle generate CASES OUT                                        a batch file of made cases
   oracle compare CASES                                             the oracle against the second reading
@@ -64,7 +64,9 @@ impl Words {
                     let number = words.next()?.parse().ok()?;
                     parsed.numbers.push((word, number));
                 }
-                "--plain" | "--no-overlays" | "--any-length" | "--any-byte" | "--short" => parsed.flags.push(word),
+                "--plain" | "--no-overlays" | "--any-length" | "--any-byte" | "--short" | "--second" => {
+                    parsed.flags.push(word)
+                }
                 _ if word.starts_with("--") => return None,
                 _ => parsed.rest.push(word),
             }
@@ -104,7 +106,7 @@ fn run(words: &Words) -> Result<bool, String> {
     let rest: Vec<&str> = words.rest.iter().map(String::as_str).collect();
     match rest[..] {
         ["list"] => list::list(words),
-        ["batch", file] => list::batch(file),
+        ["batch", file] => list::batch(file, words.has("--second")),
         ["bench", entry, file] => list::bench(entry, file, words.has("--plain")),
         ["generate", out] => stored::generate(words.generator(), words.numbers(), out),
         ["compare"] => {
