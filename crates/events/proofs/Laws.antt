@@ -3,23 +3,25 @@
 use mathlib.Core.Path.{_≡_, refl, sym, ap, _∙_}
 use mathlib.Core.Bool.{Bool, true, false, cond}
 use mathlib.Core.List.{List, [], _∷_, _++_}
-use Prim.Native.Nat.{ℕ, suc, _+_, _*_, _≤_}
+use Prim.Native.Nat.{ℕ, suc, _+_, _*_, _≤_, _<_}
 use native.Mathlib.Nat.{le-refl, add-zero, zero-add}
 use native.Mathlib.Numerals.{add-one, add-two, add-three}
 use native.Mathlib.Omega.{arith}
 use lib.Dec.{ltb}
 use lib.ListN.{length, take, drop, set}
 use lib.Seq.{length-sets, take-set-le, drop-set-lt}
-use borrow.Author.Tests.{lt-ltb}
+use borrow.Author.Tests.{lt-ltb, le-ltb}
 use Rattle.events.specs.Events.{width, numbers}
-use Rattle.events.specs.Table.{slots, store, Poured, all, full, pour, Final, final, finish}
+use Rattle.events.specs.Table.{slots, store, Poured, all, full, pour, Final, final, finish, Puts}
 use Rattle.events.specs.declared.Event.{Event}
+use Rattle.events.specs.declared.Listed.the-variants.{Written, Full}
+use Rattle.events.specs.declared.Log.{Log}
 use Rattle.events.specs.declared.Outcome.{Outcome}
 
 -- ---- one store
 module _ (t : List ℕ) (n : ℕ) (e : Event) where
   -- as the code writes it
-  pub store-is : store t n e ≡ set (set (set (set t (n * 4) (e .kind)) (n * 4 + 1) (e .offset)) (n * 4 + 2) (e .length)) (n * 4 + 3) (e .encoding)
+  store-is : store t n e ≡ set (set (set (set t (n * 4) (e .kind)) (n * 4 + 1) (e .offset)) (n * 4 + 2) (e .length)) (n * 4 + 3) (e .encoding)
   unfolding store
   store-is = rw (add-one, add-two, add-three)
 
@@ -36,6 +38,16 @@ module _ (t : List ℕ) (n : ℕ) (e : Event) where
   unfolding store
   store-behind k h =
       drop-set-lt k _ _ _ (omega arith) ∙ drop-set-lt k _ _ _ (omega arith) ∙ drop-set-lt k _ _ _ (omega arith) ∙ drop-set-lt k t _ _ (omega arith)
+
+-- ---- one event: the code's four stores where there is a slot, and nothing where there is none
+module _ (t : List ℕ) (log : Log) (e : Event) where
+  pub put-written : log .count < slots t
+      → Puts t log e (Written (record { count = log .count + 1 }))
+      (set (set (set (set t (log .count * 4) (e .kind)) (log .count * 4 + 1) (e .offset)) (log .count * 4 + 2) (e .length)) (log .count * 4 + 3) (e .encoding))
+  put-written h = let i = lt-ltb (log .count) (slots t) h in record { answer = rw i; table = rw i (sym (store-is t (log .count) e)) }
+
+  pub put-full : slots t ≤ log .count → Puts t log e Full t
+  put-full h = let i = le-ltb (log .count) (slots t) h in record { answer = rw i; table = rw i }
 
 -- ---- appended events: the later ones are poured where the earlier ones left room
 unfoldable pub further : List Event → Poured → Poured

@@ -3,11 +3,6 @@ use borrow.Author.Needs.{needs}
 use Rattle.events.proofs.Event.new.Statement.{statement}
 use Rattle.events.proofs.Event.new.Tie as tie
 
--- src/lib.rt:88:21
--- src/lib.rt:89:21
--- src/lib.rt:90:23
--- src/lib.rt:82:5
-
 pub new-spec : {M : Type 1} → statement M
 new-spec =
     tie.close

@@ -70,37 +70,21 @@ pub +multi-body+part-spec : {M : Type 1} → statement M
     multi-body.Post
     multi-body-Inv-loop
     multi-body-μ-loop
-    -- need multi-body preamble-requires
     (λ c κs. (c .before .before .pre .1 .1, c .before .before .pre .1 .3))
-    -- need multi-body enum-known-a
     (λ c. search needs)
-    -- need multi-body enum-known-first
     (λ c. search needs)
-    -- need multi-body loop-holds
     (λ c. (omega arith, (rw (c .before .first .given .1) at (c .before .before .before .preamble .ensures (c .before .before .before .before .before .before .args .mail) [] (c .before .before .before .before .before .before .args .table .now))) .moved .1, refl, λ os f. here _ ((rw (c .before .first .given .1) at (c .before .before .before .preamble .ensures (c .before .before .before .before .before .before .args .mail) [] (c .before .before .before .before .before .before .args .table .now))) .moved .1)))
-    -- need multi-body part-requires
     (λ c κs. (omega arith, (c .before .before .before .before .before .before .before .before .pre .1 .0, c .before .loop .inv .1, begun-on (c .before .before .before .before .before .before .before .before .args .mail) (c .before .before .before .before .before .before .before .before .args .at) _ (c .before .before .before .before .before .before .before .before .pre .1 .2) (omega (arith, c .before .loop .inv .0, (rw (c .before .before .before .first .given .1) at (c .before .before .before .before .before .preamble .ensures (c .before .before .before .before .before .before .before .before .args .mail) [] (c .before .before .before .before .before .before .before .before .args .table .now))) .moved .0)), c .before .before .before .before .before .before .before .before .pre .1 .3, c .before .before .before .before .before .before .before .before .pre .1 .4)))
-    -- need multi-body enum-known-to
     (λ c. search needs)
-    -- need multi-body loop-less
     (λ c. omega (arith, (rw (c .before .to .given .1) at (c .before .before .before .before .before .part .ensures)) .moved .0, (rw (c .before .to .given .1) at (c .before .before .before .before .before .part .ensures)) .moved .1))
-    -- need multi-body loop-again
     (λ c. (omega (arith, c .before .before .before .before .before .before .before .loop .inv .0, (rw (c .before .to .given .1) at (c .before .before .before .before .before .part .ensures)) .moved .0), (rw (c .before .to .given .1) at (c .before .before .before .before .before .part .ensures)) .moved .1, c .before .before .before .before .before .part .kept .1 .1 .1 .1 .1 .1 .0 ∙ c .before .before .before .before .before .before .before .loop .inv .2, λ os f. walked (c .before .before .before .before .before .before .before .loop .inv .3 os f) (as-next os f (rw (c .before .to .given .1) at (c .before .before .before .before .before .part .ensures)))))
-    -- need multi-body enum-known-to-2
     (λ c. search needs)
-    -- need multi-body epilogue-requires
-    (λ c κs. (c .before .before .before .before .before .before .before .before .before .before .before .before .before .before .pre .1 .0, (rw (c .before .to2 .given .1) at (c .before .before .before .before .before .part .ensures)) .moved .1, begun-on (c .before .before .before .before .before .before .before .before .before .before .before .before .before .before .args .mail) (c .before .before .before .before .before .before .before .before .before .before .before .before .before .before .args .at) _ (c .before .before .before .before .before .before .before .before .before .before .before .before .before .before .pre .1 .2) (omega (arith, c .before .before .before .before .before .before .before .loop .inv .0, (rw (c .before .before .before .before .before .before .before .before .before .first .given .1) at (c .before .before .before .before .before .before .before .before .before .before .before .preamble .ensures (c .before .before .before .before .before .before .before .before .before .before .before .before .before .before .args .mail) [] (c .before .before .before .before .before .before .before .before .before .before .before .before .before .before .args .table .now))) .moved .0, (rw (c .before .to2 .given .1) at (c .before .before .before .before .before .part .ensures)) .moved .0)), c .before .before .before .before .before .before .before .before .before .before .before .before .before .before .pre .1 .4))
-    -- need multi-body same-length
+    (λ c κs. (c .before .before .before .before .before .before .before .before .before .before .before .before .before .before .pre .1 .0, (rw (c .before .to2 .given .1) at (c .before .before .before .before .before .part .ensures)) .moved .1, begun-on (c .before .before .before .before .before .before .before .before .before .before .before .before .before .before .args .mail) (c .before .before .before .before .before .before .before .before .before .before .before .before .before .before .args .at) _ (c .before .before .before .before .before .before .before .before .before .before .before .before .before .before .pre .1 .2) (omega (arith, c .before .before .before .before .before .before .before .loop .inv .0, (rw (c .before .before .before .before .before .before .before .before .before .first .given .1) at (c .before .before .before .before .before .before .before .before .before .before .before .preamble .ensures (c .before .before .before .before .before .before .before .before .before .before .before .before .before .before .args .mail) [] (c .before .before .before .before .before .before .before .before .before .before .before .before .before .before .args .table .now))) .moved .0, (rw (c .before .to2 .given .1) at (c .before .before .before .before .before .part .ensures)) .moved .0)), omega (arith, c .before .before .before .before .before .before .before .before .before .before .before .before .before .before .pre .1 .3, c .before .before .before .before .before .before .before .before .before .before .before .before .before .before .pre .1 .4)))
     (λ c. c .before .before .before .before .before .before .part .kept .1 .1 .1 .1 .1 .1 .0 ∙ c .before .before .before .before .before .before .before .before .loop .inv .2)
-    -- need multi-body returns
-    (λ c. inner (further (c .before .before .before .before .before .before .before .before .before .before .before .before .before .before .before .args .s .now) (c .before .before .before .before .before .before .before .before .before .before .before .before .before .before .before .args .at) (c .before .before .to2 .given .0 .0) (c .epilogue .result) (omega (arith, c .before .before .before .before .before .before .before .before .loop .inv .0, (rw (c .before .before .before .before .before .before .before .before .before .before .first .given .1) at (c .before .before .before .before .before .before .before .before .before .before .before .before .preamble .ensures (c .before .before .before .before .before .before .before .before .before .before .before .before .before .before .before .args .mail) [] (c .before .before .before .before .before .before .before .before .before .before .before .before .before .before .before .args .table .now))) .moved .0, (rw (c .before .before .to2 .given .1) at (c .before .before .before .before .before .before .part .ensures)) .moved .0)) (c .epilogue .ensures _ [] (outermost-none (piece (c .before .before .before .before .before .before .before .before .before .before .before .before .before .before .before .args .s .now) (c .before .before .before .before .before .before .before .before .before .before .before .before .before .before .before .args .outer))) (c .before .before .before .before .before .before .part .last .1 .1 .1 .1 .1 .1 .0) .moved)) (λ os f. walked (rw (c .before .before .before .before .before .before .before .before .before .before .first .given .1) at (c .before .before .before .before .before .before .before .before .before .before .before .before .preamble .ensures (c .before .before .before .before .before .before .before .before .before .before .before .before .before .before .before .args .mail) os (c .before .before .before .before .before .before .before .before .before .before .before .before .before .before .before .args .table .now))) (walked (c .before .before .before .before .before .before .before .before .loop .inv .3 os f) (walked (as-closed os f (rw (c .before .before .to2 .given .1) at (c .before .before .before .before .before .before .part .ensures))) (c .epilogue .ensures (piece (c .before .before .before .before .before .before .before .before .before .before .before .before .before .before .before .args .s .now) (c .before .before .before .before .before .before .before .before .before .before .before .before .before .before .before .args .b)) os (f .outermost) (c .before .before .before .before .before .before .part .last .1 .1 .1 .1 .1 .1 .0))))))
-    -- need multi-body enum-known-a-2
+    (λ c. inner (further (c .before .before .before .before .before .before .before .before .before .before .before .before .before .before .before .args .s .now) (c .before .before .before .before .before .before .before .before .before .before .before .before .before .before .before .args .at) (c .before .before .to2 .given .0 .0) (c .epilogue .result) (omega (arith, c .before .before .before .before .before .before .before .before .loop .inv .0, (rw (c .before .before .before .before .before .before .before .before .before .before .first .given .1) at (c .before .before .before .before .before .before .before .before .before .before .before .before .preamble .ensures (c .before .before .before .before .before .before .before .before .before .before .before .before .before .before .before .args .mail) [] (c .before .before .before .before .before .before .before .before .before .before .before .before .before .before .before .args .table .now))) .moved .0, (rw (c .before .before .to2 .given .1) at (c .before .before .before .before .before .before .part .ensures)) .moved .0)) (c .epilogue .ensures _ [] (outermost-none _) (c .before .before .before .before .before .before .part .last .1 .1 .1 .1 .1 .1 .0) .moved)) (λ os f. walked (rw (c .before .before .before .before .before .before .before .before .before .before .first .given .1) at (c .before .before .before .before .before .before .before .before .before .before .before .before .preamble .ensures (c .before .before .before .before .before .before .before .before .before .before .before .before .before .before .before .args .mail) os (c .before .before .before .before .before .before .before .before .before .before .before .before .before .before .before .args .table .now))) (walked (c .before .before .before .before .before .before .before .before .loop .inv .3 os f) (walked (as-closed os f (rw (c .before .before .to2 .given .1) at (c .before .before .before .before .before .before .part .ensures))) (c .epilogue .ensures (piece (c .before .before .before .before .before .before .before .before .before .before .before .before .before .before .before .args .s .now) (c .before .before .before .before .before .before .before .before .before .before .before .before .before .before .before .args .b)) os (f .outermost) (c .before .before .before .before .before .before .part .last .1 .1 .1 .1 .1 .1 .0))))))
     (λ c. search needs)
-    -- need multi-body same-length-2
     (λ c. c .before .before .before .before .before .part .kept .1 .1 .1 .1 .1 .1 .0 ∙ c .before .before .before .before .before .before .before .loop .inv .2)
-    -- need multi-body returns-2
     (λ c. inner tt (λ os f. walked (rw (c .before .before .before .before .before .before .before .before .before .first .given .1) at (c .before .before .before .before .before .before .before .before .before .before .before .preamble .ensures (c .before .before .before .before .before .before .before .before .before .before .before .before .before .before .args .mail) os (c .before .before .before .before .before .before .before .before .before .before .before .before .before .before .args .table .now))) (walked (c .before .before .before .before .before .before .before .loop .inv .3 os f) (as-stopped os f (popped (c .before .before .before .before .before .before .before .before .before .before .before .before .before .before .args .mail) os) (rw (c .before .a2 .given .1) at (c .before .before .before .before .before .part .ensures))))))
-    -- need multi-body returns-3
     (λ c. inner tt (λ os f. stopped (rw (c .before .a .given .1) at (c .before .before .before .preamble .ensures (c .before .before .before .before .before .before .args .mail) os (c .before .before .before .before .before .before .args .table .now))))))
     λ t. part-lts.spec (
       header-reads.Asked,
@@ -114,55 +98,29 @@ pub +multi-body+part-spec : {M : Type 1} → statement M
     )
     (part-at t)
     part.Post
-    -- need part sub-header
     (λ c. c .before .before .pre .1 .1)
-    -- need part part-header-start
     (λ c. c .before .before .pre .1 .1)
-    -- need part part-header-end
     (λ c. search needs)
-    -- need part header-requires
     (λ c κs. rw (rest-is (c .before .before .before .before .args .s .now) (c .before .before .before .before .args .at)) (omega (arith, length-drop (c .before .before .before .before .args .at) (c .before .before .before .before .args .s .now), c .before .before .before .before .pre .1 .0, c .before .before .before .before .pre .1 .1)))
-    -- need part enum-known-a
     (λ c. search needs)
-    -- need part enum-known-known
     (λ c. search needs)
-    -- need part add-to
     (λ c. omega (arith, head-within (c .before .before .before .before .before .before .before .before .before .before .args .s .now) (rw (rest-is (c .before .before .before .before .before .before .before .before .before .before .args .s .now) (c .before .before .before .before .before .before .before .before .before .before .args .at), c .before .known .given .1) at (c .before .before .before .before .before .header .ensures)) (c .before .before .before .before .before .before .before .before .before .before .pre .1 .1)))
-    -- need part enum-told
     (λ c. search needs)
-    -- need part content-requires
     (λ c κs. (c .before .before .before .before .before .before .before .before .before .before .before .before .before .pre .1 .0, head-within (c .before .before .before .before .before .before .before .before .before .before .before .before .before .args .s .now) (rw (rest-is (c .before .before .before .before .before .before .before .before .before .before .before .before .before .args .s .now) (c .before .before .before .before .before .before .before .before .before .before .before .before .before .args .at), c .before .before .before .before .known .given .1) at (c .before .before .before .before .before .before .before .before .header .ensures)) (c .before .before .before .before .before .before .before .before .before .before .before .before .before .pre .1 .1), c .before .before .before .before .before .before .before .before .before .before .before .before .before .pre .1 .3))
-    -- need part enum-known-boundary
     (λ c. search needs)
-    -- need part stopped-requires
     (λ c κs. search needs)
-    -- need part same-length
     (λ c. search needs)
-    -- need part returns
     (λ c. part-ninth (c .before .before .before .before .before .before .before .before .before .before .before .before .before .before .before .args .s .now) (rw (rest-is (c .before .before .before .before .before .before .before .before .before .before .before .before .before .before .before .args .s .now) (c .before .before .before .before .before .before .before .before .before .before .before .before .before .before .before .args .at), c .before .before .before .before .before .before .known .given .1) at (c .before .before .before .before .before .before .before .before .before .before .header .ensures)) (c .before .before .before .before .before .before .before .before .before .before .before .before .before .before .before .args .mail) (c .before .before .before .before .before .before .before .before .before .before .before .before .before .before .before .args .b) (c .before .before .before .before .before .before .before .before .before .before .before .before .before .before .before .args .outer) (c .before .before .before .before .before .before .before .before .before .before .before .before .before .before .before .args .levels) _ _ (c .before .before .before .boundary .given .1) (c .before .if1 .taken) (c .stopped .ensures))
-    -- need part add-multi-body
     (λ c. omega (arith, head-lies (c .before .before .before .before .before .before .before .before .before .before .before .before .before .before .args .s .now) (rw (rest-is (c .before .before .before .before .before .before .before .before .before .before .before .before .before .before .args .s .now) (c .before .before .before .before .before .before .before .before .before .before .before .before .before .before .args .at), c .before .before .before .before .before .known .given .1) at (c .before .before .before .before .before .before .before .before .before .header .ensures)) _ _ (c .before .before .before .before .before .before .before .before .before .before .before .before .before .before .pre .1 .1) (c .before .before .boundary .given .1)))
-    -- need part sub-multi-body
     (λ c. search needs)
-    -- need part multi-body-requires
     (λ c κs. (omega arith, (c .before .before .before .before .before .before .before .before .before .before .before .before .before .before .before .pre .1 .0, head-within (c .before .before .before .before .before .before .before .before .before .before .before .before .before .before .before .args .s .now) (rw (rest-is (c .before .before .before .before .before .before .before .before .before .before .before .before .before .before .before .args .s .now) (c .before .before .before .before .before .before .before .before .before .before .before .before .before .before .before .args .at), c .before .before .before .before .before .before .known .given .1) at (c .before .before .before .before .before .before .before .before .before .before .header .ensures)) (c .before .before .before .before .before .before .before .before .before .before .before .before .before .before .before .pre .1 .1), begun-on (c .before .before .before .before .before .before .before .before .before .before .before .before .before .before .before .args .mail) (c .before .before .before .before .before .before .before .before .before .before .before .before .before .before .before .args .at) _ (c .before .before .before .before .before .before .before .before .before .before .before .before .before .before .before .pre .1 .2) (omega arith), head-lies (c .before .before .before .before .before .before .before .before .before .before .before .before .before .before .before .args .s .now) (rw (rest-is (c .before .before .before .before .before .before .before .before .before .before .before .before .before .before .before .args .s .now) (c .before .before .before .before .before .before .before .before .before .before .before .before .before .before .before .args .at), c .before .before .before .before .before .before .known .given .1) at (c .before .before .before .before .before .before .before .before .before .before .header .ensures)) _ _ (c .before .before .before .before .before .before .before .before .before .before .before .before .before .before .before .pre .1 .1) (c .before .before .before .boundary .given .1), c .before .before .before .before .before .before .before .before .before .before .before .before .before .before .before .pre .1 .4)))
-    -- need part enum-known-a-2
     (λ c. search needs)
-    -- need part enum-known-p
     (λ c. search needs)
-    -- need part same-length-2
     (λ c. search needs)
-    -- need part returns-2
     (λ c. parted-stop (λ os. popped (c .before .before .before .before .before .before .before .before .before .before .args .mail) os) (λ os f. head-stopped (c .before .before .before .before .before .before .before .before .before .before .args .s .now) (rw (rest-is (c .before .before .before .before .before .before .before .before .before .before .args .s .now) (c .before .before .before .before .before .before .before .before .before .before .args .at), c .before .a .given .1) at (c .before .before .before .before .before .header .ensures)) (c .before .before .before .before .before .before .before .before .before .before .args .mail) (piece (c .before .before .before .before .before .before .before .before .before .before .args .s .now) (c .before .before .before .before .before .before .before .before .before .before .args .b) ∷ os)))
-    -- need part same-length-3
     (λ c. search needs)
-    -- need part returns-3
     (λ c. part-plain (c .before .before .before .before .before .before .before .before .before .before .before .before .before .before .before .before .args .s .now) (rw (rest-is (c .before .before .before .before .before .before .before .before .before .before .before .before .before .before .before .before .args .s .now) (c .before .before .before .before .before .before .before .before .before .before .before .before .before .before .before .before .args .at), c .before .before .before .before .before .before .before .known .given .1) at (c .before .before .before .before .before .before .before .before .before .before .before .header .ensures)) (c .before .before .before .before .before .before .before .before .before .before .before .before .before .before .before .before .args .mail) (piece (c .before .before .before .before .before .before .before .before .before .before .before .before .before .before .before .before .args .s .now) (c .before .before .before .before .before .before .before .before .before .before .before .before .before .before .before .before .args .b)) (c .before .before .before .before .enum-told .given .1) (c .before .before .content .ensures (c .before .before .before .before .before .before .before .before .before .before .before .before .before .before .before .before .args .mail)))
-    -- need part same-length-4
     (λ c. search needs)
-    -- need part returns-4
     (λ c. part-deeper (c .before .before .before .before .before .before .before .before .before .before .before .before .before .before .before .before .before .before .before .before .before .args .s .now) (rw (rest-is (c .before .before .before .before .before .before .before .before .before .before .before .before .before .before .before .before .before .before .before .before .before .args .s .now) (c .before .before .before .before .before .before .before .before .before .before .before .before .before .before .before .before .before .before .before .before .before .args .at), c .before .before .before .before .before .before .before .before .before .before .before .before .known .given .1) at (c .before .before .before .before .before .before .before .before .before .before .before .before .before .before .before .before .header .ensures)) (c .before .before .before .before .before .before .before .before .before .before .before .before .before .before .before .before .before .before .before .before .before .args .mail) (c .before .before .before .before .before .before .before .before .before .before .before .before .before .before .before .before .before .before .before .before .before .args .b) (c .before .before .before .before .before .before .before .before .before .before .before .before .before .before .before .before .before .before .before .before .before .args .outer) (c .before .before .before .before .before .before .before .before .before .before .before .before .before .before .before .before .before .before .before .before .before .args .levels) _ _ (c .before .before .before .before .before .before .before .before .before .boundary .given .1) (walk.Stopped _) (c .before .before .before .before .before .before .before .if1 .left) (rw (c .before .a2 .given .1) at (c .before .before .before .before .before .multi-body .ensures)))
-    -- need part same-length-5
     (λ c. search needs)
-    -- need part returns-5
     (λ c. part-deeper (c .before .before .before .before .before .before .before .before .before .before .before .before .before .before .before .before .before .before .before .before .before .args .s .now) (rw (rest-is (c .before .before .before .before .before .before .before .before .before .before .before .before .before .before .before .before .before .before .before .before .before .args .s .now) (c .before .before .before .before .before .before .before .before .before .before .before .before .before .before .before .before .before .before .before .before .before .args .at), c .before .before .before .before .before .before .before .before .before .before .before .before .known .given .1) at (c .before .before .before .before .before .before .before .before .before .before .before .before .before .before .before .before .header .ensures)) (c .before .before .before .before .before .before .before .before .before .before .before .before .before .before .before .before .before .before .before .before .before .args .mail) (c .before .before .before .before .before .before .before .before .before .before .before .before .before .before .before .before .before .before .before .before .before .args .b) (c .before .before .before .before .before .before .before .before .before .before .before .before .before .before .before .before .before .before .before .before .before .args .outer) (c .before .before .before .before .before .before .before .before .before .before .before .before .before .before .before .before .before .before .before .before .before .args .levels) _ _ (c .before .before .before .before .before .before .before .before .before .boundary .given .1) (walk.Went _ _) (c .before .before .before .before .before .before .before .if1 .left) (rw (c .before .p .given .1) at (c .before .before .before .before .before .multi-body .ensures)))
