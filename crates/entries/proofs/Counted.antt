@@ -14,8 +14,8 @@ use Rattle.events.specs.declared.Answer.{Answer}
 use Rattle.events.specs.declared.Event.{Event}
 use Rattle.events.specs.declared.Outcome.{Outcome}
 use Rattle.events.specs.declared.Outcome.the-variants.{TooLong}
-use Rattle.sessions.specs.Phases.{Phase, reads}
-use Rattle.sessions.specs.Sessions.{answer, settle, session, limit}
+use Rattle.rules.specs.Phases.{Phase, reads}
+use Rattle.rules.specs.Sessions.{answer, settle, session, limit}
 use Rattle.sessions.specs.Walks.{finalOf}
 
 poured-if : (t : List ℕ) (n : ℕ) (e : Event) (r : Outcome) (p q : ℕ) (a : Poured) (b : Bool) → ltb n (slots t) ≡ b → n ≤ slots t

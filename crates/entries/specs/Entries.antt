@@ -5,7 +5,7 @@ use mathlib.Core.List.{List}
 use Prim.Native.Nat.{ℕ}
 use lib.Dec.{eqb}
 use Rattle.events.specs.Table.{Final}
-use Rattle.sessions.specs.Sessions.{smtpClient, smtpServer, pop3Server, imapClient}
+use Rattle.rules.specs.Sessions.{smtpClient, smtpServer, pop3Server, imapClient}
 use Rattle.entries.specs.declared.Entry.{Entry}
 use Rattle.entries.specs.declared.Entry.the-variants.{SmtpClient, SmtpServer, Pop3Server, ImapClient}
 use Rattle.entries.specs.declared.Letter.{Letter}

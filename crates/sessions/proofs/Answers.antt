@@ -8,8 +8,8 @@ use borrow.Author.Tests.{lt-ltb, le-ltb}
 use Rattle.events.specs.Table.{Final}
 use Rattle.events.specs.declared.Answer.{Answer}
 use Rattle.events.specs.declared.Outcome.the-variants.{TooLong}
-use Rattle.sessions.specs.Phases.{Phase, reads}
-use Rattle.sessions.specs.Sessions.{limit, session, settle, answer}
+use Rattle.rules.specs.Phases.{Phase, reads}
+use Rattle.rules.specs.Sessions.{limit, session, settle, answer}
 use Rattle.sessions.specs.Walks.{finalOf}
 
 module _ (start : Phase) (s t : List ℕ) where

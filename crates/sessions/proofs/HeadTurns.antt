@@ -17,13 +17,13 @@ use Rattle.fields.specs.declared.common.Bdry.the-variants.{Unsupplied}
 use Rattle.fields.specs.declared.common.Scan.{Scan}
 use Rattle.reading.specs.Bytes.{same}
 use Rattle.reading.specs.Reading.{aLine, crlf}
-use Rattle.sessions.specs.Machine.{Reaction, before}
-use Rattle.sessions.specs.Mail.{begun, onHead}
-use Rattle.sessions.specs.Phases.{State, reads, head, wants, then}
-use Rattle.sessions.specs.Sessions.{reacts, session, settle}
+use Rattle.rules.specs.Machine.{Reaction, before}
+use Rattle.rules.specs.Mail.{begun, onHead}
+use Rattle.rules.specs.Phases.{State, reads, head, wants, then}
+use Rattle.rules.specs.Sessions.{reacts, session, settle}
 use Rattle.sessions.specs.Walks.{Stopped, Ends, Stops, Notes, Headers}
 use Rattle.sessions.specs.declared.common.Headed.the-variants as headed
-use Rattle.sessions.specs.declared.common.Mail.{Mail}
+use Rattle.rules.specs.declared.Mail.{Mail}
 use Rattle.sessions.specs.declared.common.Noted.the-variants as noted
 use Rattle.sessions.proofs.Readings.{turn}
 

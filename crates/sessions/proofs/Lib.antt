@@ -1,4 +1,3 @@
-pub mod Machines
 pub mod Readings
 pub mod Steps
 pub mod Lines
@@ -9,4 +8,3 @@ pub mod Parting
 pub mod SmtpTurns
 pub mod StatusTurns
 pub mod Answers
-pub mod Cases

@@ -18,9 +18,9 @@ use Rattle.events.specs.declared.Outcome.the-variants.{TableFull}
 use Rattle.fields.specs.Common.{part}
 use Rattle.reading.proofs.Ends.{clean-within, clean-take}
 use Rattle.reading.specs.Reading.{aLine, clean}
-use Rattle.sessions.specs.Machine.{before}
-use Rattle.sessions.specs.Phases.{Phase, State, reads, wants}
-use Rattle.sessions.specs.Sessions.{reacts, session, settle}
+use Rattle.rules.specs.Machine.{before}
+use Rattle.rules.specs.Phases.{Phase, State, reads, wants}
+use Rattle.rules.specs.Sessions.{reacts, session, settle}
 use Rattle.sessions.specs.Walks.{Stopped, Ends, Stops, Notes, goes, Walks, Lists, LinedTo, LinedStop}
 use Rattle.sessions.specs.declared.common.Noted.the-variants as noted
 use Rattle.sessions.specs.declared.common.Walk.{Walk}

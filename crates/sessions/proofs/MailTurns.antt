@@ -16,14 +16,14 @@ use Rattle.events.specs.declared.Outcome.the-variants.{BadDelimiter}
 use Rattle.fields.specs.Common.{part, unknown, dashBdry}
 use Rattle.reading.specs.Bytes.{startsWith, same}
 use Rattle.reading.specs.Reading.{Need, crlf}
-use Rattle.sessions.specs.Machine.{Reaction}
-use Rattle.sessions.specs.Mail.{dotLine, hyphens, afterMail, rest, literalBody, held, whole, contentLength, outermost, byRest, skip, lastLine, popped, onText, onLiteral, onOpened, onContent, onBetween, onSkipping, onResting}
-use Rattle.sessions.specs.Phases.{Phase, State, reads, wants, then, stop, closing, head, text, literal, opened, content, between, skipping, resting}
-use Rattle.sessions.specs.Sessions.{reacts}
+use Rattle.rules.specs.Machine.{Reaction}
+use Rattle.rules.specs.Mail.{dotLine, hyphens, afterMail, rest, literalBody, held, whole, contentLength, outermost, byRest, skip, lastLine, popped, onText, onLiteral, onOpened, onContent, onBetween, onSkipping, onResting}
+use Rattle.rules.specs.Phases.{Phase, State, reads, wants, then, stop, closing, head, text, literal, opened, content, between, skipping, resting}
+use Rattle.rules.specs.Sessions.{reacts}
 use Rattle.sessions.specs.Walks.{Ends, Stopped, Pair, NoPair, Notes, goes, Walks, piece, Lies, Begun}
 use Rattle.sessions.specs.declared.common.Boundary.{Boundary}
-use Rattle.sessions.specs.declared.common.Mail.{Mail}
-use Rattle.sessions.specs.declared.common.Mail.the-variants.{Smtp, Pop3, Imap}
+use Rattle.rules.specs.declared.Mail.{Mail}
+use Rattle.rules.specs.declared.Mail.the-variants.{Smtp, Pop3, Imap}
 use Rattle.sessions.specs.declared.common.Noted.the-variants as noted
 use Rattle.sessions.specs.declared.common.Walk.{Walk}
 use Rattle.sessions.specs.declared.common.Walk.the-variants as walk

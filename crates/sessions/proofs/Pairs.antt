@@ -12,7 +12,7 @@ use Rattle.fields.specs.Common.{part}
 use Rattle.reading.proofs.Words.{both-true, starts-is}
 use Rattle.reading.specs.Bytes.{startsWith, same}
 use Rattle.reading.specs.Reading.{two, crlf}
-use Rattle.sessions.specs.Mail.{hyphens}
+use Rattle.rules.specs.Mail.{hyphens}
 use Rattle.sessions.specs.Walks.{Ends, Pair, NoPair}
 use Rattle.sessions.proofs.Readings.{sized-to}
 

@@ -18,14 +18,14 @@ use Rattle.events.specs.declared.Outcome.the-variants.{TooDeep}
 use Rattle.fields.specs.Common.{unknown, bdryBytes}
 use Rattle.fields.specs.declared.common.Bdry.the-variants.{Unsupplied, Of}
 use Rattle.fields.specs.declared.common.Scan.{Scan}
-use Rattle.sessions.specs.Machine.{Reaction}
-use Rattle.sessions.specs.Mail.{afterMail, plainMail, plain, begun, outermost, popped, skip, onPreamble}
-use Rattle.sessions.specs.Phases.{State, reads, head, content, preamble, opened, then}
-use Rattle.sessions.specs.Sessions.{reacts, session, settle}
+use Rattle.rules.specs.Machine.{Reaction}
+use Rattle.rules.specs.Mail.{afterMail, plainMail, plain, begun, outermost, popped, skip, onPreamble}
+use Rattle.rules.specs.Phases.{State, reads, head, content, preamble, opened, then}
+use Rattle.rules.specs.Sessions.{reacts, session, settle}
 use Rattle.sessions.specs.Walks.{Stopped, under, walkLeft, Moved, Walks, Headers, piece, Lies, Within, partedLeft, MovedPart, Parts, Inner}
 use Rattle.sessions.specs.declared.common.Boundary.{Boundary}
 use Rattle.sessions.specs.declared.common.Headed.the-variants as headed
-use Rattle.sessions.specs.declared.common.Mail.{Mail}
+use Rattle.rules.specs.declared.Mail.{Mail}
 use Rattle.sessions.specs.declared.common.Parted.{Parted}
 use Rattle.sessions.specs.declared.common.Parted.the-variants as parted
 use Rattle.sessions.specs.declared.common.Walk.{Walk}

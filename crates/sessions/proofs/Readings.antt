@@ -21,12 +21,12 @@ use Rattle.reading.proofs.Places.{at-same}
 use Rattle.reading.specs.Bytes.{firstPlace}
 use Rattle.reading.specs.Reading.{dash, delimits, Need, bytes, delimiter, past, short, reach, parted, fetch}
 use Rattle.reading.specs.declared.Place.the-variants.{At, Nowhere}
-use Rattle.sessions.specs.Machine.{Ran, before}
-use Rattle.sessions.specs.Phases.{Phase, State, reads, ends, wants, need}
-use Rattle.sessions.specs.Sessions.{reacts, react, session, resultOf, placeOf, settle}
+use Rattle.rules.specs.Machine.{Ran, before}
+use Rattle.rules.specs.Phases.{Phase, State, reads, ends, wants, need}
+use Rattle.rules.specs.Sessions.{reacts, react, session, resultOf, placeOf, settle}
 use Rattle.sessions.specs.Walks.{Ends, Stops, under, piece, Lies}
 use Rattle.sessions.specs.declared.common.Boundary.{Boundary}
-use Rattle.sessions.proofs.Machines.{run-short, run-got}
+use Rattle.rules.proofs.Machines.{run-short, run-got}
 
 -- ---- a read, by how far it reaches
 pub part-length : (s : List ℕ) (i j : ℕ) → j ≤ length s → length (part s i j) ≡ j - i

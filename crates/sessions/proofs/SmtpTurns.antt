@@ -22,11 +22,11 @@ use Rattle.reading.specs.Reading.{aLine, clean}
 use Rattle.reading.specs.Text.{text}
 use Rattle.reading.specs.declared.Place.{Place}
 use Rattle.reading.specs.declared.Place.the-variants.{At, Nowhere}
-use Rattle.sessions.specs.Phases.{State, hello, second, user, password, sender, seeking, recipient, reply, head, then, wants}
-use Rattle.sessions.specs.Sessions.{reacts}
-use Rattle.sessions.specs.Smtp.{onHello, tried, bySecond, onSecond, onUser, onPassword, onSender, onSeeking, byRecipient, onRecipient, onReply}
+use Rattle.rules.specs.Phases.{State, hello, second, user, password, sender, seeking, recipient, reply, head, then, wants}
+use Rattle.rules.specs.Sessions.{reacts}
+use Rattle.rules.specs.Smtp.{onHello, tried, bySecond, onSecond, onUser, onPassword, onSender, onSeeking, byRecipient, onRecipient, onReply}
 use Rattle.sessions.specs.Walks.{Ends, Stopped, Walks, Lists, LinedTo, LinedStop}
-use Rattle.sessions.specs.declared.common.Mail.the-variants.{Smtp}
+use Rattle.rules.specs.declared.Mail.the-variants.{Smtp}
 use Rattle.sessions.specs.declared.common.Walk.{Walk}
 use Rattle.sessions.specs.declared.common.Walk.the-variants as walk
 use Rattle.sessions.proofs.Lines.{clean-part, line-on, line-stop}

@@ -16,13 +16,13 @@ use Rattle.fields.specs.Pop3.{stlsAnswer, retrAnswer}
 use Rattle.reading.proofs.Places.{by-test}
 use Rattle.reading.specs.Bytes.{startsWith, same}
 use Rattle.reading.specs.Reading.{aLine, crlf, clean}
-use Rattle.sessions.specs.Imap.{onCommand, onOffered, onClosing}
-use Rattle.sessions.specs.Mail.{hyphens}
-use Rattle.sessions.specs.Phases.{State, reads, wants, then, stop, status, command, offered, closing, head}
-use Rattle.sessions.specs.Pop3.{onStatus}
-use Rattle.sessions.specs.Sessions.{reacts, session, settle}
+use Rattle.rules.specs.Imap.{onCommand, onOffered, onClosing}
+use Rattle.rules.specs.Mail.{hyphens}
+use Rattle.rules.specs.Phases.{State, reads, wants, then, stop, status, command, offered, closing, head}
+use Rattle.rules.specs.Pop3.{onStatus}
+use Rattle.rules.specs.Sessions.{reacts, session, settle}
 use Rattle.sessions.specs.Walks.{Stopped, Ends, Pair, NoPair, Walks, Lists, LinedTo, LinedStop, Moved, Farther, Turns}
-use Rattle.sessions.specs.declared.common.Mail.the-variants.{Pop3, Imap}
+use Rattle.rules.specs.declared.Mail.the-variants.{Pop3, Imap}
 use Rattle.sessions.specs.declared.common.Walk.{Walk}
 use Rattle.sessions.specs.declared.common.Walk.the-variants as walk
 use Rattle.sessions.proofs.Lines.{line-on, line-stop}

@@ -11,9 +11,9 @@ use Rattle.events.specs.declared.Event.{Event}
 use Rattle.events.specs.declared.Log.{Log}
 use Rattle.events.specs.declared.Outcome.{Outcome}
 use Rattle.fields.specs.Common.{part}
-use Rattle.sessions.specs.Machine.{Reaction}
-use Rattle.sessions.specs.Phases.{Phase, State, reads, ends, wants}
-use Rattle.sessions.specs.Sessions.{reacts, session, settle}
+use Rattle.rules.specs.Machine.{Reaction}
+use Rattle.rules.specs.Phases.{Phase, State, reads, ends, wants}
+use Rattle.rules.specs.Sessions.{reacts, session, settle}
 use Rattle.sessions.specs.Walks.{Ends, Stops, Notes, goes, under, Moved, Stopped, Walks}
 use Rattle.sessions.specs.declared.common.Noted.the-variants as noted
 use Rattle.sessions.specs.declared.common.Walk.{Walk}

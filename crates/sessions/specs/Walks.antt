@@ -15,17 +15,17 @@ use Rattle.events.specs.declared.Outcome.{Outcome}
 use Rattle.fields.specs.Common.{part, unknown, bdryBytes, Inside}
 use Rattle.reading.specs.Bytes.{same}
 use Rattle.reading.specs.Reading.{Need, aLine, two, crlf, clean, got, fetch}
-use Rattle.sessions.specs.Machine.{Reaction, Ran, before}
-use Rattle.sessions.specs.Mail.{hyphens, begun, skip, outermost}
-use Rattle.sessions.specs.Phases.{Phase, State, reads, head, wants}
-use Rattle.sessions.specs.Sessions.{reacts, session, settle}
+use Rattle.rules.specs.Machine.{Reaction, Ran, before}
+use Rattle.rules.specs.Mail.{hyphens, begun, skip, outermost}
+use Rattle.rules.specs.Phases.{Phase, State, reads, head, wants}
+use Rattle.rules.specs.Sessions.{reacts, session, settle}
 use Rattle.sessions.specs.declared.common.Boundary.{Boundary}
 use Rattle.sessions.specs.declared.common.Headed.{Headed}
 use Rattle.sessions.specs.declared.common.Headed.the-variants as headed
 use Rattle.sessions.specs.declared.common.Lined.{Lined}
 use Rattle.sessions.specs.declared.common.Lined.the-variants as lined
-use Rattle.sessions.specs.declared.common.Mail.{Mail}
-use Rattle.sessions.specs.declared.common.Mail.the-variants.{Smtp, Pop3, Imap}
+use Rattle.rules.specs.declared.Mail.{Mail}
+use Rattle.rules.specs.declared.Mail.the-variants.{Smtp, Pop3, Imap}
 use Rattle.sessions.specs.declared.common.Noted.{Noted}
 use Rattle.sessions.specs.declared.common.Noted.the-variants as noted
 use Rattle.sessions.specs.declared.common.Parted.{Parted}

@@ -7,10 +7,10 @@ ghost use Rattle.events.specs.Events.{ev, bodyStart, bodyStop};
 ghost use Rattle.events.specs.declared.Encoding.the-variants.{Unsaid};
 ghost use Rattle.reading.specs.Reading.{aLine, bytes, delimiter};
 ghost use Rattle.fields.specs.Common.{part, unknown};
-ghost use Rattle.sessions.specs.Phases.{State, reads, closing, head, text, preamble, content, between, resting, then};
-ghost use Rattle.sessions.specs.Sessions.{limit};
-ghost use Rattle.sessions.specs.Mail.{afterMail, plainMail, literalBody, whole, rest, skip, lastLine, popped, outermost};
-ghost use Rattle.sessions.specs.declared.common.Mail.{Mail};
+ghost use Rattle.rules.specs.Phases.{State, reads, closing, head, text, preamble, content, between, resting, then};
+ghost use Rattle.rules.specs.Sessions.{limit};
+ghost use Rattle.rules.specs.Mail.{afterMail, plainMail, literalBody, whole, rest, skip, lastLine, popped, outermost};
+ghost use Rattle.rules.specs.declared.Mail.{Mail};
 ghost use Rattle.sessions.specs.Walks.{Stopped, ReadIs, TwoIs, Notes, goes, Walks, LinedIs, Headers, piece, Lies, Begun, Within, Parts, Inner};
 use events::Answer;
 use events::BODY_LINE;
@@ -27,13 +27,7 @@ use events::SIZED_BODY;
 use fields::common::Bdry;
 use fields::common::Scan;
 use reading::Place;
-
-// Whose mail it is; of an IMAP client's the literal's size, and where the mail's header began.
-pub enum Mail {
-    Smtp,
-    Pop3,
-    Imap(u64, usize),
-}
+use rules::Mail;
 
 // A read: the place behind it, or how the session stops where the read began.
 pub enum Read {

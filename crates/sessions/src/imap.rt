@@ -3,13 +3,12 @@ ghost use mathlib.Core.Path.{_≡_};
 ghost use mathlib.Core.List.{[]};
 ghost use Prim.Native.Nat.{_≤_};
 ghost use lib.ListN.{length};
-ghost use Rattle.sessions.specs.Phases.{reads, command, offered, head, then};
-ghost use Rattle.sessions.specs.Sessions.{limit, session, settle};
+ghost use Rattle.rules.specs.Phases.{reads, command, offered, head, then};
+ghost use Rattle.rules.specs.Sessions.{limit, session, settle};
 ghost use Rattle.fields.specs.Common.{unknown};
-ghost use Rattle.sessions.specs.declared.common.Mail.the-variants.{Imap};
+ghost use Rattle.rules.specs.declared.Mail.the-variants.{Imap};
 ghost use Rattle.sessions.specs.Walks.{finalOf, Walks, Turns};
 use crate::common::Lined;
-use crate::common::Mail;
 use crate::common::Read;
 use crate::common::Two;
 use crate::common::Walk;
@@ -25,6 +24,7 @@ use events::Outcome;
 use fields::imap::append;
 use fields::imap::append_size;
 use fields::imap::has_colon;
+use rules::Mail;
 
 pub fn client(s: &[u8], table: &mut [u32]) -> Answer
     requires { ⌜ length (now s) ≤ limit ⌝ }

@@ -1,6 +1,6 @@
 // The four entries: a session's bytes and a lent table in, the events into the table, result, place and count out.
 ghost use mathlib.Core.Path.{_≡_};
-ghost use Rattle.sessions.specs.Sessions.{smtpClient, smtpServer, pop3Server, imapClient};
+ghost use Rattle.rules.specs.Sessions.{smtpClient, smtpServer, pop3Server, imapClient};
 ghost use Rattle.events.specs.declared.Outcome.the-variants.{TooLong};
 ghost use Rattle.sessions.specs.Walks.{finalOf};
 use events::Answer;

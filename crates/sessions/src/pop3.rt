@@ -3,11 +3,10 @@ ghost use mathlib.Core.Path.{_≡_};
 ghost use mathlib.Core.List.{[]};
 ghost use Prim.Native.Nat.{_≤_};
 ghost use lib.ListN.{length};
-ghost use Rattle.sessions.specs.Phases.{reads, status, then};
-ghost use Rattle.sessions.specs.Sessions.{limit, session, settle};
+ghost use Rattle.rules.specs.Phases.{reads, status, then};
+ghost use Rattle.rules.specs.Sessions.{limit, session, settle};
 ghost use Rattle.sessions.specs.Walks.{finalOf, Turns};
 use crate::common::Lined;
-use crate::common::Mail;
 use crate::common::Walk;
 use crate::common::clean_line;
 use crate::common::read_mail;
@@ -18,6 +17,7 @@ use events::Outcome;
 use events::SERVER_LINE;
 use fields::pop3::retr_answer;
 use fields::pop3::stls_answer;
+use rules::Mail;
 
 pub fn server(s: &[u8], table: &mut [u32]) -> Answer
     requires { ⌜ length (now s) ≤ limit ⌝ }

@@ -5,14 +5,13 @@ ghost use Prim.Native.Nat.{ℕ, _≤_};
 ghost use lib.ListN.{length};
 ghost use Rattle.fields.specs.Common.{part};
 ghost use Rattle.fields.specs.Smtp.{rcptTo};
-ghost use Rattle.sessions.specs.Phases.{reads, hello, second, user, sender, seeking, recipient, reply, head, then};
-ghost use Rattle.sessions.specs.Sessions.{limit, session, settle};
-ghost use Rattle.sessions.specs.Smtp.{tried, byRecipient};
+ghost use Rattle.rules.specs.Phases.{reads, hello, second, user, sender, seeking, recipient, reply, head, then};
+ghost use Rattle.rules.specs.Sessions.{limit, session, settle};
+ghost use Rattle.rules.specs.Smtp.{tried, byRecipient};
 ghost use Rattle.sessions.specs.Walks.{finalOf, Walks};
 ghost use Rattle.fields.specs.Common.{unknown};
-ghost use Rattle.sessions.specs.declared.common.Mail.the-variants.{Smtp};
+ghost use Rattle.rules.specs.declared.Mail.the-variants.{Smtp};
 use crate::common::Lined;
-use crate::common::Mail;
 use crate::common::Noted;
 use crate::common::Read;
 use crate::common::Walk;
@@ -38,6 +37,7 @@ use fields::smtp::mail_from;
 use fields::smtp::rcpt_to;
 use fields::smtp::second_line;
 use fields::smtp::starts_with_helo;
+use rules::Mail;
 
 pub fn client(s: &[u8], table: &mut [u32]) -> Answer
     requires { ⌜ length (now s) ≤ limit ⌝ }

@@ -1,6 +1,6 @@
 -- `entries::dissect` meets its contract. Assumes nothing.
 use borrow.Author.Needs.{needs}
-use Rattle.sessions.specs.Phases.{hello, reply, status, command}
+use Rattle.rules.specs.Phases.{hello, reply, status, command}
 use Rattle.entries.proofs.Counted.{counted}
 use Rattle.entries.proofs.dissect.Statement.{statement}
 use Rattle.entries.proofs.dissect.Tie as tie

@@ -1,6 +1,6 @@
 -- `sessions::imap_client` meets its contract. Assumes nothing.
 use borrow.Author.Needs.{needs}
-use Rattle.sessions.specs.Phases.{command}
+use Rattle.rules.specs.Phases.{command}
 use Rattle.sessions.proofs.Answers.{too-long, in-limit}
 use Rattle.sessions.proofs.imap_client.Statement.{statement}
 use Rattle.sessions.proofs.imap_client.Tie as tie

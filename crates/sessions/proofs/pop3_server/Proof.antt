@@ -1,6 +1,6 @@
 -- `sessions::pop3_server` meets its contract. Assumes nothing.
 use borrow.Author.Needs.{needs}
-use Rattle.sessions.specs.Phases.{status}
+use Rattle.rules.specs.Phases.{status}
 use Rattle.sessions.proofs.Answers.{too-long, in-limit}
 use Rattle.sessions.proofs.pop3_server.Statement.{statement}
 use Rattle.sessions.proofs.pop3_server.Tie as tie

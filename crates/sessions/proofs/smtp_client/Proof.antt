@@ -1,6 +1,6 @@
 -- `sessions::smtp_client` meets its contract. Assumes nothing.
 use borrow.Author.Needs.{needs}
-use Rattle.sessions.specs.Phases.{hello}
+use Rattle.rules.specs.Phases.{hello}
 use Rattle.sessions.proofs.Answers.{too-long, in-limit}
 use Rattle.sessions.proofs.smtp_client.Statement.{statement}
 use Rattle.sessions.proofs.smtp_client.Tie as tie

@@ -1,6 +1,6 @@
 -- `sessions::smtp_server` meets its contract. Assumes nothing.
 use borrow.Author.Needs.{needs}
-use Rattle.sessions.specs.Phases.{reply}
+use Rattle.rules.specs.Phases.{reply}
 use Rattle.sessions.proofs.Answers.{too-long, in-limit}
 use Rattle.sessions.proofs.smtp_server.Statement.{statement}
 use Rattle.sessions.proofs.smtp_server.Tie as tie

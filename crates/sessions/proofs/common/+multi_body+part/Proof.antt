@@ -10,8 +10,8 @@ use borrow.Fn.Kinds.{In}
 use borrow.Fn.PlainCycle.{Measures, is, falls, and}
 use Rattle.fields.specs.Common.{unknown}
 use Rattle.reading.proofs.Words.{rest-is}
-use Rattle.sessions.specs.Mail.{outermost, popped}
-use Rattle.sessions.specs.Phases.{reads, head}
+use Rattle.rules.specs.Mail.{outermost, popped}
+use Rattle.rules.specs.Phases.{reads, head}
 use Rattle.sessions.specs.Walks.{goes, Walks, piece, Within}
 use Rattle.sessions.specs.declared.common.Walk.the-variants as walk
 use Rattle.sessions.proofs.MailTurns.{begun-on}

@@ -2,7 +2,7 @@
 use mathlib.Core.List.{[]}
 use native.Mathlib.Omega.{arith}
 use borrow.Author.Needs.{needs}
-use Rattle.sessions.specs.Phases.{reads, text}
+use Rattle.rules.specs.Phases.{reads, text}
 use Rattle.sessions.proofs.Steps.{note-stop, note}
 use Rattle.sessions.proofs.common.body.Statement.{statement}
 use Rattle.sessions.proofs.common.body.Tie as tie

@@ -5,11 +5,11 @@ use Prim.Native.Nat.{_-_}
 use native.Mathlib.Omega.{arith}
 use lib.ListN.{length}
 use borrow.Author.Needs.{needs}
-use Rattle.sessions.specs.Mail.{afterMail}
-use Rattle.sessions.specs.Phases.{reads, text, then, wants}
+use Rattle.rules.specs.Mail.{afterMail}
+use Rattle.rules.specs.Phases.{reads, text, then, wants}
 use Rattle.sessions.specs.Walks.{Walks}
-use Rattle.sessions.specs.declared.common.Mail.{Mail}
-use Rattle.sessions.specs.declared.common.Mail.the-variants.{Smtp}
+use Rattle.rules.specs.declared.Mail.{Mail}
+use Rattle.rules.specs.declared.Mail.the-variants.{Smtp}
 use Rattle.sessions.specs.declared.common.Walk.the-variants as walk
 use Rattle.sessions.proofs.MailTurns.{read-as, text-dot, text-line}
 use Rattle.sessions.proofs.Steps.{here, read-stop, note-stop, note, walked}

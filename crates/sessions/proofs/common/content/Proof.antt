@@ -2,9 +2,9 @@
 use mathlib.Core.List.{[]}
 use native.Mathlib.Omega.{arith}
 use borrow.Author.Needs.{needs}
-use Rattle.sessions.specs.Phases.{reads, between, wants}
+use Rattle.rules.specs.Phases.{reads, between, wants}
 use Rattle.sessions.specs.Walks.{piece}
-use Rattle.sessions.specs.declared.common.Mail.the-variants.{Smtp}
+use Rattle.rules.specs.declared.Mail.the-variants.{Smtp}
 use Rattle.sessions.proofs.MailTurns.{read-as, between-crlf, between-hyphens, between-other}
 use Rattle.sessions.proofs.Parting.{parted-stop, parted-next, parted-closed}
 use Rattle.sessions.proofs.Steps.{here, stop, read-stop, walked, stopped}

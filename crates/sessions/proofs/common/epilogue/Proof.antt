@@ -6,8 +6,8 @@ use Prim.Native.Nat.{ℕ, _-_, _≤_}
 use native.Mathlib.Omega.{arith}
 use lib.ListN.{length}
 use borrow.Author.Needs.{needs}
-use Rattle.sessions.specs.Mail.{outermost, skip}
-use Rattle.sessions.specs.Phases.{skipping, wants}
+use Rattle.rules.specs.Mail.{outermost, skip}
+use Rattle.rules.specs.Phases.{skipping, wants}
 use Rattle.sessions.specs.Walks.{goes, piece, Walks}
 use Rattle.sessions.specs.declared.common.Walk.the-variants as walk
 use Rattle.sessions.proofs.MailTurns.{read-as, skipping-last, skipping-on, skip-by-rest, skip-by-line, begun-on}

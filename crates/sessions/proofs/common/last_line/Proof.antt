@@ -1,7 +1,7 @@
 -- `sessions::common::last_line` meets its contract. Assumes nothing.
 use mathlib.Core.Path.{sym, _∙_}
 use borrow.Author.Needs.{needs}
-use Rattle.sessions.specs.Mail.{lastLine}
+use Rattle.rules.specs.Mail.{lastLine}
 use Rattle.sessions.proofs.MailTurns.{last-dash}
 use Rattle.sessions.proofs.Readings.{piece-part}
 use Rattle.sessions.proofs.common.last_line.Statement.{statement}

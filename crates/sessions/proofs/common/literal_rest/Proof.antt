@@ -1,7 +1,7 @@
 -- `sessions::common::literal_rest` meets its contract. Assumes nothing.
 use native.Mathlib.Omega.{arith}
 use borrow.Author.Needs.{needs}
-use Rattle.sessions.specs.Mail.{rest}
+use Rattle.rules.specs.Mail.{rest}
 use Rattle.sessions.proofs.common.literal_rest.Statement.{statement}
 use Rattle.sessions.proofs.common.literal_rest.Tie as tie
 

@@ -3,7 +3,7 @@ use mathlib.Core.List.{[]}
 use Prim.Native.Nat.{_-_}
 use native.Mathlib.Omega.{arith}
 use borrow.Author.Needs.{needs}
-use Rattle.sessions.specs.Phases.{reads, content, between, wants}
+use Rattle.rules.specs.Phases.{reads, content, between, wants}
 use Rattle.sessions.specs.Walks.{piece}
 use Rattle.sessions.proofs.MailTurns.{read-as, content-all}
 use Rattle.sessions.proofs.Readings.{piece-length}

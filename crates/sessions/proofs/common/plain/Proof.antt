@@ -1,8 +1,8 @@
 -- `sessions::common::plain` meets its contract. Assumes nothing.
 use borrow.Author.Needs.{needs}
 use borrow.Author.Tests.{lt-ltb, le-ltb}
-use Rattle.sessions.specs.Mail.{plainMail, afterMail, rest}
-use Rattle.sessions.specs.declared.common.Mail.the-variants.{Smtp, Pop3}
+use Rattle.rules.specs.Mail.{plainMail, afterMail, rest}
+use Rattle.rules.specs.declared.Mail.the-variants.{Smtp, Pop3}
 use Rattle.sessions.proofs.Steps.{stop}
 use Rattle.sessions.proofs.common.plain.Statement.{statement}
 use Rattle.sessions.proofs.common.plain.Tie as tie

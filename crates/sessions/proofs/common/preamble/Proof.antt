@@ -1,7 +1,7 @@
 -- `sessions::common::preamble` meets its contract. Assumes nothing.
 use native.Mathlib.Omega.{arith}
 use borrow.Author.Needs.{needs}
-use Rattle.sessions.specs.Phases.{opened, preamble, wants}
+use Rattle.rules.specs.Phases.{opened, preamble, wants}
 use Rattle.sessions.specs.Walks.{piece}
 use Rattle.sessions.proofs.MailTurns.{read-as, opened-crlf, opened-hyphens, opened-other}
 use Rattle.sessions.proofs.Parting.{preamble-any}

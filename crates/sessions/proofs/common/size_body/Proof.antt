@@ -5,7 +5,7 @@ use native.Mathlib.Omega.{arith}
 use borrow.Author.Needs.{needs}
 use Rattle.events.specs.Events.{ev, bodyStop}
 use Rattle.events.specs.declared.Encoding.the-variants.{Unsaid}
-use Rattle.sessions.specs.Phases.{reads, closing, literal, wants}
+use Rattle.rules.specs.Phases.{reads, closing, literal, wants}
 use Rattle.sessions.proofs.MailTurns.{read-as, literal-none, literal-some, literal-all, literal-full}
 use Rattle.sessions.proofs.Steps.{read-stop, note}
 use Rattle.sessions.proofs.common.size_body.Statement.{statement}

@@ -1,7 +1,7 @@
 -- `sessions::common::skip_rest` meets its contract. Assumes nothing.
 use Prim.Native.Nat.{_-_}
 use borrow.Author.Needs.{needs}
-use Rattle.sessions.specs.Phases.{resting, wants}
+use Rattle.rules.specs.Phases.{resting, wants}
 use Rattle.sessions.proofs.MailTurns.{read-as, resting-all}
 use Rattle.sessions.proofs.Steps.{here, read-stop}
 use Rattle.sessions.proofs.common.skip_rest.Statement.{statement}

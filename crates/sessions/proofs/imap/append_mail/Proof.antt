@@ -2,8 +2,8 @@
 use native.Mathlib.Nat.{le-refl}
 use native.Mathlib.Omega.{arith}
 use borrow.Author.Needs.{needs}
-use Rattle.sessions.specs.Mail.{afterMail}
-use Rattle.sessions.specs.Phases.{closing, wants}
+use Rattle.rules.specs.Mail.{afterMail}
+use Rattle.rules.specs.Phases.{closing, wants}
 use Rattle.sessions.proofs.MailTurns.{read-as}
 use Rattle.sessions.proofs.StatusTurns.{closing-crlf, closing-hyphens, closing-other}
 use Rattle.sessions.proofs.Steps.{here, stop, read-stop, walked, stopped}

@@ -2,7 +2,7 @@
 use mathlib.Core.Path.{sym, _∙_}
 use native.Mathlib.Omega.{arith}
 use borrow.Author.Needs.{needs}
-use Rattle.sessions.specs.Phases.{offered, wants}
+use Rattle.rules.specs.Phases.{offered, wants}
 use Rattle.sessions.proofs.StatusTurns.{offered-mail, offered-none}
 use Rattle.sessions.proofs.Steps.{read-stop}
 use Rattle.sessions.proofs.imap.append_ok.Statement.{statement}

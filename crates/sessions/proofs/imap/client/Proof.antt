@@ -5,7 +5,7 @@ use Prim.Native.Nat.{_-_}
 use native.Mathlib.Omega.{arith}
 use lib.ListN.{length}
 use borrow.Author.Needs.{needs}
-use Rattle.sessions.specs.Phases.{reads, then, command}
+use Rattle.rules.specs.Phases.{reads, then, command}
 use Rattle.sessions.specs.Walks.{Walks}
 use Rattle.sessions.specs.declared.common.Walk.the-variants as walk
 use Rattle.sessions.proofs.Steps.{here, walked}

@@ -2,7 +2,7 @@
 use mathlib.Core.Path.{sym, _∙_}
 use native.Mathlib.Omega.{arith}
 use borrow.Author.Needs.{needs}
-use Rattle.sessions.specs.Mail.{afterMail}
+use Rattle.rules.specs.Mail.{afterMail}
 use Rattle.sessions.proofs.StatusTurns.{status-stop, status-tls, status-mail, status-on}
 use Rattle.sessions.proofs.pop3.status.Statement.{statement}
 use Rattle.sessions.proofs.pop3.status.Tie as tie

@@ -1,8 +1,8 @@
 -- `sessions::smtp::client` meets its contract. Assumes nothing.
 use borrow.Author.Needs.{needs}
-use Rattle.sessions.specs.Mail.{afterMail}
-use Rattle.sessions.specs.Phases.{second}
-use Rattle.sessions.specs.declared.common.Mail.the-variants.{Smtp}
+use Rattle.rules.specs.Mail.{afterMail}
+use Rattle.rules.specs.Phases.{second}
+use Rattle.rules.specs.declared.Mail.the-variants.{Smtp}
 use Rattle.sessions.proofs.Steps.{stop, walked}
 use Rattle.sessions.proofs.smtp.client.Statement.{statement}
 use Rattle.sessions.proofs.smtp.client.Tie as tie

@@ -2,7 +2,7 @@
 use mathlib.Core.Path.{sym, _∙_}
 use native.Mathlib.Omega.{arith}
 use borrow.Author.Needs.{needs}
-use Rattle.sessions.specs.Phases.{wants, second}
+use Rattle.rules.specs.Phases.{wants, second}
 use Rattle.sessions.proofs.Lines.{clean-end}
 use Rattle.sessions.proofs.SmtpTurns.{second-tls, second-login, second-from, second-other}
 use Rattle.sessions.proofs.Steps.{read-stop}

@@ -2,7 +2,7 @@
 use mathlib.Core.Path.{sym, _∙_}
 use lib.Seq.{length-take-le}
 use borrow.Author.Needs.{needs}
-use Rattle.sessions.specs.Phases.{wants, hello}
+use Rattle.rules.specs.Phases.{wants, hello}
 use Rattle.sessions.proofs.SmtpTurns.{hello-said, hello-not}
 use Rattle.sessions.proofs.Steps.{here, read-stop}
 use Rattle.sessions.proofs.smtp.hello.Statement.{statement}

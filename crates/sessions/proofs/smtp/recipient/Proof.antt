@@ -3,8 +3,8 @@ use mathlib.Core.Path.{sym, _∙_}
 use mathlib.Core.List.{[]}
 use native.Mathlib.Omega.{arith}
 use borrow.Author.Needs.{needs}
-use Rattle.sessions.specs.Phases.{reads, recipient}
-use Rattle.sessions.specs.Smtp.{byRecipient}
+use Rattle.rules.specs.Phases.{reads, recipient}
+use Rattle.rules.specs.Smtp.{byRecipient}
 use Rattle.sessions.proofs.SmtpTurns.{to-room}
 use Rattle.sessions.proofs.Steps.{here, stop, note, note-stop}
 use Rattle.sessions.proofs.smtp.recipient.Statement.{statement}

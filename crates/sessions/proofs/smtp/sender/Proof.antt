@@ -1,7 +1,7 @@
 -- `sessions::smtp::sender` meets its contract. Assumes nothing.
 use native.Mathlib.Omega.{arith}
 use borrow.Author.Needs.{needs}
-use Rattle.sessions.specs.Phases.{wants, sender}
+use Rattle.rules.specs.Phases.{wants, sender}
 use Rattle.sessions.proofs.Lines.{clean-end}
 use Rattle.sessions.proofs.SmtpTurns.{sender-tried}
 use Rattle.sessions.proofs.Steps.{read-stop}

@@ -15,11 +15,11 @@ use Rattle.fields.specs.Common.{Known, unknown, scanned, dashBdry}
 use Rattle.reading.specs.Bytes.{same}
 use Rattle.reading.specs.Reading.{crlf}
 use Rattle.reading.specs.Text.{text}
-use Rattle.sessions.specs.Machine.{Reaction}
-use Rattle.sessions.specs.Phases.{State, reads, ends, then, stop, first}
-use Rattle.sessions.specs.Phases as phase
-use Rattle.sessions.specs.declared.common.Mail.{Mail}
-use Rattle.sessions.specs.declared.common.Mail.the-variants.{Smtp, Pop3, Imap}
+use Rattle.rules.specs.Machine.{Reaction}
+use Rattle.rules.specs.Phases.{State, reads, ends, then, stop, first}
+use Rattle.rules.specs.Phases as phase
+use Rattle.rules.specs.declared.Mail.{Mail}
+use Rattle.rules.specs.declared.Mail.the-variants.{Smtp, Pop3, Imap}
 
 abbrev pub dotLine : List ℕ
 dotLine = text ".\r\n"

@@ -1,4 +1,5 @@
--- The definition, computed: stored sessions of the oracle, each with the oracle's answer; a table's numbers are 99 before.
+-- The definition, computed: document 01's small proved set, and stored sessions of the oracle, each with its answer; a table's numbers are 99 before.
+-- Assumes nothing.
 use mathlib.Core.Path.{_≡_, refl}
 use mathlib.Core.List.{List, [], _∷_, _++_, map}
 use lib.ListN.{replicate}
@@ -13,13 +14,13 @@ use Rattle.fields.specs.Common.{encodingNamed, behindSpaces, transferEncoding, 
 use Rattle.fields.specs.Smtp.{startsWithHelo, isMailFrom, secondLine, isData, upToEnd, closing as closingAt, mailFrom, required, rcptTo}
 use Rattle.fields.specs.Pop3.{stlsAnswer, octets, octetsFollow, numbered, retrAnswer}
 use Rattle.fields.specs.Imap.{appendFollows, isAppend, dark, trimmed, braced, fromBrace, sizeOf, appendSize, holdsColon}
-use Rattle.sessions.specs.Machine.{turn, go, run}
-use Rattle.sessions.specs.Phases.{wants, need}
-use Rattle.sessions.specs.Mail.{afterMail, literalBody, rest, plainMail, plain, begun, onHead, onText, onLiteral, onPreamble, onOpened, held, whole, contentLength, onContent, outermost, byRest, skip, onBetween, lastLine, popped, onSkipping, onResting}
-use Rattle.sessions.specs.Smtp.{onHello, given, bySecond, onSecond, onUser, onPassword, onSender, onSeeking, byRecipient, onRecipient, onReply}
-use Rattle.sessions.specs.Pop3.{onStatus}
-use Rattle.sessions.specs.Imap.{onCommand, onOffered, onClosing}
-use Rattle.sessions.specs.Sessions.{reacts, react, resultOf, placeOf, settle, answer, smtpClient, smtpServer, pop3Server, imapClient}
+use Rattle.rules.specs.Machine.{turn, go, run}
+use Rattle.rules.specs.Phases.{wants, need}
+use Rattle.rules.specs.Mail.{afterMail, literalBody, rest, plainMail, plain, begun, onHead, onText, onLiteral, onPreamble, onOpened, held, whole, contentLength, onContent, outermost, byRest, skip, onBetween, lastLine, popped, onSkipping, onResting}
+use Rattle.rules.specs.Smtp.{onHello, given, bySecond, onSecond, onUser, onPassword, onSender, onSeeking, byRecipient, onRecipient, onReply}
+use Rattle.rules.specs.Pop3.{onStatus}
+use Rattle.rules.specs.Imap.{onCommand, onOffered, onClosing}
+use Rattle.rules.specs.Sessions.{reacts, react, resultOf, placeOf, settle, answer, smtpClient, smtpServer, pop3Server, imapClient}
 
 -- what the definition answers, and what the oracle does
 record Case : Type 0 where
@@ -53,7 +54,6 @@ retrs =
     (pop3Server (replicate 24 99) (text "+OK 4294967295 octets\r\nT: u\r\n\r\n.\r\n") gives final (8 ∷ 0 ∷ 21 ∷ 0 ∷ 1 ∷ 23 ∷ 6 ∷ 0 ∷ 1 ∷ 29 ∷ 2 ∷ 0 ∷ 2 ∷ 31 ∷ 0 ∷ 0 ∷ 6 ∷ 31 ∷ 0 ∷ 0 ∷ 99 ∷ 99 ∷ 99 ∷ 99 ∷ []) Incomplete 34 5) ∷
     (pop3Server (replicate 20 99) (text "+OK 4294967296 octets\r\nT: u\r\n\r\n.\r\n") gives final (8 ∷ 0 ∷ 21 ∷ 0 ∷ 8 ∷ 23 ∷ 4 ∷ 0 ∷ 8 ∷ 29 ∷ 0 ∷ 0 ∷ 8 ∷ 31 ∷ 1 ∷ 0 ∷ 99 ∷ 99 ∷ 99 ∷ 99 ∷ []) Incomplete 34 4) ∷
     (pop3Server (replicate 24 99) (text "+OK 0000000000007 octetsX\r\nT: u\r\n\r\n.\r\n") gives final (8 ∷ 0 ∷ 25 ∷ 0 ∷ 1 ∷ 27 ∷ 6 ∷ 0 ∷ 1 ∷ 33 ∷ 2 ∷ 0 ∷ 2 ∷ 35 ∷ 0 ∷ 0 ∷ 6 ∷ 35 ∷ 0 ∷ 0 ∷ 99 ∷ 99 ∷ 99 ∷ 99 ∷ []) Incomplete 38 5) ∷
-    (pop3Server (replicate 20 99) (text "+OK12 octets\r\nT: u\r\n\r\n.\r\n") gives final (8 ∷ 0 ∷ 12 ∷ 0 ∷ 8 ∷ 14 ∷ 4 ∷ 0 ∷ 8 ∷ 20 ∷ 0 ∷ 0 ∷ 8 ∷ 22 ∷ 1 ∷ 0 ∷ 99 ∷ 99 ∷ 99 ∷ 99 ∷ []) Incomplete 25 4) ∷
     []
 
 -- what stands in an APPEND's braces; a literal larger than its header, as large, smaller
@@ -68,16 +68,27 @@ literals =
     (imapClient (replicate 16 99) (text "a APPEND x {07}\r\nT: u\r\n\r\nhey\r\n") gives final (7 ∷ 0 ∷ 15 ∷ 0 ∷ 1 ∷ 17 ∷ 6 ∷ 0 ∷ 1 ∷ 23 ∷ 2 ∷ 0 ∷ 99 ∷ 99 ∷ 99 ∷ 99 ∷ []) SmallLiteral 25 3) ∷
     []
 
--- before a first part, behind a part, and `--qq`
+-- boundary q: content, none of it, and no delimiter
+abbrev parts : List Case
+parts =
+    (pop3Server (replicate 32 99) (text "+OK 1 octets\r\nContent-Type: boundary=q\r\n\r\n--q\r\n\r\nabc\r\n--q") gives final (8 ∷ 0 ∷ 12 ∷ 0 ∷ 1 ∷ 14 ∷ 26 ∷ 0 ∷ 1 ∷ 40 ∷ 2 ∷ 0 ∷ 1 ∷ 47 ∷ 2 ∷ 0 ∷ 2 ∷ 49 ∷ 0 ∷ 0 ∷ 5 ∷ 49 ∷ 3 ∷ 0 ∷ 6 ∷ 52 ∷ 0 ∷ 0 ∷ 99 ∷ 99 ∷ 99 ∷ 99 ∷ []) Incomplete 57 7) ∷
+    (pop3Server (replicate 28 99) (text "+OK 1 octets\r\nContent-Type: boundary=q\r\n\r\n--q\r\n\r\n--q") gives final (8 ∷ 0 ∷ 12 ∷ 0 ∷ 1 ∷ 14 ∷ 26 ∷ 0 ∷ 1 ∷ 40 ∷ 2 ∷ 0 ∷ 1 ∷ 47 ∷ 2 ∷ 0 ∷ 2 ∷ 49 ∷ 0 ∷ 0 ∷ 6 ∷ 49 ∷ 0 ∷ 0 ∷ 99 ∷ 99 ∷ 99 ∷ 99 ∷ []) Incomplete 52 6) ∷
+    (pop3Server (replicate 24 99) (text "+OK 1 octets\r\nContent-Type: boundary=q\r\n\r\n--q\r\n\r\nx--q") gives final (8 ∷ 0 ∷ 12 ∷ 0 ∷ 1 ∷ 14 ∷ 26 ∷ 0 ∷ 1 ∷ 40 ∷ 2 ∷ 0 ∷ 1 ∷ 47 ∷ 2 ∷ 0 ∷ 2 ∷ 49 ∷ 0 ∷ 0 ∷ 99 ∷ 99 ∷ 99 ∷ 99 ∷ []) Incomplete 49 5) ∷
+    []
+
+-- document 01's (*) cases
+abbrev small : List Case
+small = example ++ empty ++ retrs ++ literals ++ parts
+
+-- delimiters before a first part, and `--qq`; a retrieval without white space; a dot line in a header
 abbrev delimiters : List Case
 delimiters =
     (pop3Server (replicate 16 99) (text "+OK 1 octets\r\nContent-Type: boundary=q\r\n\r\nabc\r\n--q\r\n") gives final (8 ∷ 0 ∷ 12 ∷ 0 ∷ 1 ∷ 14 ∷ 26 ∷ 0 ∷ 1 ∷ 40 ∷ 2 ∷ 0 ∷ 99 ∷ 99 ∷ 99 ∷ 99 ∷ []) Incomplete 52 3) ∷
     (pop3Server (replicate 16 99) (text "+OK 1 octets\r\nContent-Type: boundary=q\r\n\r\n--q\r\n") gives final (8 ∷ 0 ∷ 12 ∷ 0 ∷ 1 ∷ 14 ∷ 26 ∷ 0 ∷ 1 ∷ 40 ∷ 2 ∷ 0 ∷ 99 ∷ 99 ∷ 99 ∷ 99 ∷ []) Incomplete 47 3) ∷
     (pop3Server (replicate 16 99) (text "+OK 1 octets\r\nContent-Type: boundary=q\r\n\r\nx--q\r\n") gives final (8 ∷ 0 ∷ 12 ∷ 0 ∷ 1 ∷ 14 ∷ 26 ∷ 0 ∷ 1 ∷ 40 ∷ 2 ∷ 0 ∷ 99 ∷ 99 ∷ 99 ∷ 99 ∷ []) Incomplete 42 3) ∷
-    (pop3Server (replicate 32 99) (text "+OK 1 octets\r\nContent-Type: boundary=q\r\n\r\n--q\r\n\r\nabc\r\n--q") gives final (8 ∷ 0 ∷ 12 ∷ 0 ∷ 1 ∷ 14 ∷ 26 ∷ 0 ∷ 1 ∷ 40 ∷ 2 ∷ 0 ∷ 1 ∷ 47 ∷ 2 ∷ 0 ∷ 2 ∷ 49 ∷ 0 ∷ 0 ∷ 5 ∷ 49 ∷ 3 ∷ 0 ∷ 6 ∷ 52 ∷ 0 ∷ 0 ∷ 99 ∷ 99 ∷ 99 ∷ 99 ∷ []) Incomplete 57 7) ∷
-    (pop3Server (replicate 28 99) (text "+OK 1 octets\r\nContent-Type: boundary=q\r\n\r\n--q\r\n\r\n--q") gives final (8 ∷ 0 ∷ 12 ∷ 0 ∷ 1 ∷ 14 ∷ 26 ∷ 0 ∷ 1 ∷ 40 ∷ 2 ∷ 0 ∷ 1 ∷ 47 ∷ 2 ∷ 0 ∷ 2 ∷ 49 ∷ 0 ∷ 0 ∷ 6 ∷ 49 ∷ 0 ∷ 0 ∷ 99 ∷ 99 ∷ 99 ∷ 99 ∷ []) Incomplete 52 6) ∷
-    (pop3Server (replicate 24 99) (text "+OK 1 octets\r\nContent-Type: boundary=q\r\n\r\n--q\r\n\r\nx--q") gives final (8 ∷ 0 ∷ 12 ∷ 0 ∷ 1 ∷ 14 ∷ 26 ∷ 0 ∷ 1 ∷ 40 ∷ 2 ∷ 0 ∷ 1 ∷ 47 ∷ 2 ∷ 0 ∷ 2 ∷ 49 ∷ 0 ∷ 0 ∷ 99 ∷ 99 ∷ 99 ∷ 99 ∷ []) Incomplete 49 5) ∷
     (pop3Server (replicate 16 99) (text "+OK 1 octets\r\nContent-Type: boundary=q\r\n\r\n--qq\r\n") gives final (8 ∷ 0 ∷ 12 ∷ 0 ∷ 1 ∷ 14 ∷ 26 ∷ 0 ∷ 1 ∷ 40 ∷ 2 ∷ 0 ∷ 99 ∷ 99 ∷ 99 ∷ 99 ∷ []) BadDelimiter 45 3) ∷
+    (pop3Server (replicate 20 99) (text "+OK12 octets\r\nT: u\r\n\r\n.\r\n") gives final (8 ∷ 0 ∷ 12 ∷ 0 ∷ 8 ∷ 14 ∷ 4 ∷ 0 ∷ 8 ∷ 20 ∷ 0 ∷ 0 ∷ 8 ∷ 22 ∷ 1 ∷ 0 ∷ 99 ∷ 99 ∷ 99 ∷ 99 ∷ []) Incomplete 25 4) ∷
+    (pop3Server (replicate 32 99) (text "+OK 1 octets\r\nT: u\r\n.\r\n\r\nhi\r\n.\r\n") gives final (8 ∷ 0 ∷ 12 ∷ 0 ∷ 1 ∷ 14 ∷ 6 ∷ 0 ∷ 1 ∷ 20 ∷ 3 ∷ 0 ∷ 1 ∷ 23 ∷ 2 ∷ 0 ∷ 2 ∷ 25 ∷ 0 ∷ 0 ∷ 3 ∷ 25 ∷ 4 ∷ 0 ∷ 6 ∷ 29 ∷ 0 ∷ 0 ∷ 99 ∷ 99 ∷ 99 ∷ 99 ∷ []) Incomplete 32 7) ∷
     []
 
 -- eight levels, and a ninth
@@ -133,9 +144,19 @@ appends =
     (imapClient (replicate 64 99) (text "12.3 APPEND x {180}\r\nFrom: b@c\r\nSubject: s\r\nContent-Type: m; boundary=q\r\r\n\r\nx--q\r\n--q\r\nTo: d\r\nTo: d\r\nContent-Transfer-Encoding: quoted-printable\r\nFrom: b@c\r\nContent-Length: 3\r\n\r\n--\r\n--q--\r\n\r\n--\r\n--qx\r\n\r\na4 LOGOUT\r\n") gives final (7 ∷ 0 ∷ 19 ∷ 0 ∷ 1 ∷ 21 ∷ 11 ∷ 0 ∷ 1 ∷ 32 ∷ 12 ∷ 0 ∷ 1 ∷ 44 ∷ 30 ∷ 0 ∷ 1 ∷ 74 ∷ 2 ∷ 0 ∷ 1 ∷ 87 ∷ 7 ∷ 0 ∷ 1 ∷ 94 ∷ 7 ∷ 0 ∷ 1 ∷ 101 ∷ 45 ∷ 0 ∷ 1 ∷ 146 ∷ 11 ∷ 0 ∷ 1 ∷ 157 ∷ 19 ∷ 0 ∷ 1 ∷ 176 ∷ 2 ∷ 0 ∷ 2 ∷ 178 ∷ 0 ∷ 0 ∷ 5 ∷ 178 ∷ 2 ∷ 4 ∷ 6 ∷ 180 ∷ 0 ∷ 0 ∷ 7 ∷ 203 ∷ 9 ∷ 0 ∷ 99 ∷ 99 ∷ 99 ∷ 99 ∷ []) Incomplete 214 15) ∷
     []
 
-abbrev cases : List Case
-cases = example ++ empty ++ retrs ++ literals ++ delimiters ++ levels ++ clients ++ servers ++ appends
+abbrev further : List Case
+further = delimiters ++ levels ++ clients ++ servers ++ appends
 
-pub computed : map (λ c. c .answers) cases ≡ map (λ c. c .wanted) cases
+-- every case's answer is the wanted one
+abbrev Holds : List Case → Type 0
+Holds cs = map (λ c. c .answers) cs ≡ map (λ c. c .wanted) cs
+
+both : Holds small × Holds further
 unfolding answer settle resultOf placeOf react reacts need wants run go turn fetch parted reach past first firstPlace holds stands found contains delimits mayStand startsWith same endsWith raised clean dropEnd upperOf isLetter isUpper isWhite isBlank isPopWhite isDigit store pour finish lead runs last lastPlace through worth worthBehind transferEncoding encodingNamed behindSpaces closed quoted unquoted typed named bareParameter parameter contentType contentTypeExt firstEncoding byType byExt byBoundary scanned dashBdry startsWithHelo isMailFrom secondLine isData upToEnd closingAt mailFrom required rcptTo stlsAnswer octets octetsFollow numbered retrAnswer appendFollows isAppend dark trimmed braced fromBrace sizeOf appendSize holdsColon afterMail literalBody rest plainMail plain begun onHead onText onLiteral onPreamble onOpened held whole contentLength onContent outermost byRest skip onBetween lastLine popped onSkipping onResting onHello given bySecond onSecond onUser onPassword onSender onSeeking byRecipient onRecipient onReply onStatus onCommand onOffered onClosing
-computed = refl
+both = (refl, refl)
+
+pub small-set : Holds small
+small-set = both .0
+
+pub computed : Holds further
+computed = both .1

@@ -7,8 +7,8 @@ use Rattle.events.specs.declared.Event.{Event}
 use Rattle.events.specs.declared.Outcome.{Outcome}
 use Rattle.fields.specs.Common.{Known}
 use Rattle.reading.specs.Reading.{Need, aLine, bytes, two, delimiter, nothing}
-use Rattle.sessions.specs.Machine.{Reaction}
-use Rattle.sessions.specs.declared.common.Mail.{Mail}
+use Rattle.rules.specs.Machine.{Reaction}
+use Rattle.rules.specs.declared.Mail.{Mail}
 
 -- a mail is an SMTP client's, a POP3 server's, or an IMAP client's with the literal's size and where the mail's header began;
 -- open boundaries are the innermost, and those outside it, the outermost last

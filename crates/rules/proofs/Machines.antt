@@ -7,7 +7,7 @@ use native.Mathlib.Omega.{arith}
 use lib.ListN.{length, length-append}
 use Rattle.reading.proofs.Pieces.{got-splits, got-moves}
 use Rattle.reading.specs.Reading.{Need, Got, got, short, fetch}
-use Rattle.sessions.specs.Machine.{Reaction, Ran, stay, before, turn, go, run}
+use Rattle.rules.specs.Machine.{Reaction, Ran, stay, before, turn, go, run}
 
 -- what is left behind a piece is shorter
 pub got-shorter : (need : Need) (s p r : List ℕ) → fetch need s ≡ got p r → length r < length s

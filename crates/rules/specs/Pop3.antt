@@ -10,9 +10,9 @@ use Rattle.events.specs.declared.Outcome.the-variants.{Done}
 use Rattle.fields.specs.Common.{unknown}
 use Rattle.fields.specs.Pop3.{stlsAnswer, retrAnswer}
 use Rattle.reading.specs.Reading.{clean}
-use Rattle.sessions.specs.Machine.{Reaction}
-use Rattle.sessions.specs.Phases.{State, status, head, then, stop, first}
-use Rattle.sessions.specs.declared.common.Mail.the-variants.{Pop3}
+use Rattle.rules.specs.Machine.{Reaction}
+use Rattle.rules.specs.Phases.{State, status, head, then, stop, first}
+use Rattle.rules.specs.declared.Mail.the-variants.{Pop3}
 
 -- every clean line is listed; a TLS answer: done; a retrieval: a mail follows
 unfoldable pub onStatus : ℕ → List ℕ → Reaction State

@@ -9,13 +9,13 @@ use lib.ListN.{length}
 use Rattle.events.specs.Table.{Final, final, pour, finish}
 use Rattle.events.specs.declared.Outcome.{Outcome}
 use Rattle.events.specs.declared.Outcome.the-variants.{Incomplete, TooLong}
-use Rattle.sessions.specs.Imap.{onCommand, onOffered, onClosing}
-use Rattle.sessions.specs.Machine.{Reaction, Ran, run}
-use Rattle.sessions.specs.Mail.{onHead, onText, onLiteral, onPreamble, onOpened, onContent, onBetween, onSkipping, onResting}
-use Rattle.sessions.specs.Phases.{Phase, State, reads, ends, need, stop}
-use Rattle.sessions.specs.Pop3.{onStatus}
-use Rattle.sessions.specs.Smtp.{onHello, onSecond, onUser, onPassword, onSender, onSeeking, onRecipient, onReply}
-use Rattle.sessions.specs.Phases
+use Rattle.rules.specs.Imap.{onCommand, onOffered, onClosing}
+use Rattle.rules.specs.Machine.{Reaction, Ran, run}
+use Rattle.rules.specs.Mail.{onHead, onText, onLiteral, onPreamble, onOpened, onContent, onBetween, onSkipping, onResting}
+use Rattle.rules.specs.Phases.{Phase, State, reads, ends, need, stop}
+use Rattle.rules.specs.Pop3.{onStatus}
+use Rattle.rules.specs.Smtp.{onHello, onSecond, onUser, onPassword, onSender, onSeeking, onRecipient, onReply}
+use Rattle.rules.specs.Phases
 
 -- what each phase does with the piece l that begins at `at`
 unfoldable pub reacts : Phase → ℕ → List ℕ → Reaction State

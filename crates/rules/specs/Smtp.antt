@@ -18,9 +18,9 @@ use Rattle.fields.specs.declared.smtp.Second.the-variants as is
 use Rattle.reading.specs.Bytes.{startsWith}
 use Rattle.reading.specs.Reading.{clean}
 use Rattle.reading.specs.Text.{text}
-use Rattle.sessions.specs.Machine.{Reaction}
-use Rattle.sessions.specs.Phases.{State, second, user, password, sender, seeking, recipient, reply, head, then, stop, first}
-use Rattle.sessions.specs.declared.common.Mail.the-variants.{Smtp}
+use Rattle.rules.specs.Machine.{Reaction}
+use Rattle.rules.specs.Phases.{State, second, user, password, sender, seeking, recipient, reply, head, then, stop, first}
+use Rattle.rules.specs.declared.Mail.the-variants.{Smtp}
 
 -- ---- the client
 

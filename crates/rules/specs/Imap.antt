@@ -11,10 +11,10 @@ use Rattle.fields.specs.Common.{unknown}
 use Rattle.fields.specs.Imap.{isAppend, appendSize, holdsColon}
 use Rattle.reading.specs.Bytes.{same}
 use Rattle.reading.specs.Reading.{clean, crlf}
-use Rattle.sessions.specs.Machine.{Reaction}
-use Rattle.sessions.specs.Mail.{onHead}
-use Rattle.sessions.specs.Phases.{State, command, offered, then, stop, first}
-use Rattle.sessions.specs.declared.common.Mail.the-variants.{Imap}
+use Rattle.rules.specs.Machine.{Reaction}
+use Rattle.rules.specs.Mail.{onHead}
+use Rattle.rules.specs.Phases.{State, command, offered, then, stop, first}
+use Rattle.rules.specs.declared.Mail.the-variants.{Imap}
 
 -- every clean line is listed; an append offers a mail of its size
 unfoldable pub onCommand : ℕ → List ℕ → Reaction State
