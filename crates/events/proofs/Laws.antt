@@ -21,7 +21,7 @@ use Rattle.events.specs.declared.Outcome.{Outcome}
 -- ---- one store
 module _ (t : List ℕ) (n : ℕ) (e : Event) where
   -- as the code writes it
-  store-is : store t n e ≡ set (set (set (set t (n * 4) (e .kind)) (n * 4 + 1) (e .offset)) (n * 4 + 2) (e .length)) (n * 4 + 3) (e .encoding)
+  pub store-is : store t n e ≡ set (set (set (set t (n * 4) (e .kind)) (n * 4 + 1) (e .offset)) (n * 4 + 2) (e .length)) (n * 4 + 3) (e .encoding)
   unfolding store
   store-is = rw (add-one, add-two, add-three)
 

@@ -2,4 +2,5 @@ pub mod Places
 pub mod Words
 pub mod Ends
 pub mod Pieces
+pub mod Alike
 mod Cases

@@ -43,7 +43,7 @@ pub record Reaches (need : Need) (s : List ℕ) (e : ℕ) : Type 0 where
   pub within : e ≤ length s
   pub alone : (t : List ℕ) → take e t ≡ take e s → reach need t ≡ At e
 
-past-at : (n : ℕ) (p : Place) (e : ℕ) → past n p ≡ At e → (k : ℕ) × (p ≡ At k) × (k + n ≡ e)
+pub past-at : (n : ℕ) (p : Place) (e : ℕ) → past n p ≡ At e → (k : ℕ) × (p ≡ At k) × (k + n ≡ e)
 unfolding past
 past-at n (At k) e h = (k, refl, at-same h)
 past-at n Nowhere e h = absurd (let z : _≡_ {A = ℕ} 0 1 = cc in omega arith)

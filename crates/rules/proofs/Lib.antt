@@ -1,2 +1,6 @@
 pub mod Machines
+pub mod Given
+pub mod Changes
+pub mod Blind
+pub mod Secrecy
 mod Cases

@@ -25,13 +25,13 @@ dot = 46
 -- brought in; in a sized body any byte may become any
 unfoldable pub mayTurn : ℕ → ℕ → ℕ → Bool
 mayTurn kind b c =
-    (eqb kind user || (eqb kind password || eqb kind bodyLine)) && (plain b && (plain c && not (eqb c dot)))
+    ((eqb kind user || (eqb kind password || eqb kind bodyLine)) && (plain b && (plain c && not (eqb c dot))))
     || eqb kind sizedBody
 
 -- at the place p the byte b may become c: it stays, or p lies inside an event that allows it
 unfoldable pub may : List Event → ℕ → ℕ → ℕ → Bool
 may [] p b c = eqb b c
-may (e ∷ es) p b c = inside e p && mayTurn (e .kind) b c || may es p b c
+may (e ∷ es) p b c = (inside e p && mayTurn (e .kind) b c) || may es p b c
 
 -- u is s with bytes replaced so; s begins at the session's place `at`
 pub record Replaced (es : List Event) (at : ℕ) (s u : List ℕ) : Type 0 where
@@ -53,5 +53,5 @@ unfoldable pub eventsIn : List ℕ → ℕ → ℕ → List Event
 eventsIn t i zero = []
 eventsIn t i (suc n) = eventAt t i ∷ eventsIn t (i + 1) n
 
-unfoldable pub given : Final → List Event
-given f = eventsIn (f .table) 0 (f .count)
+unfoldable pub eventsOf : Final → List Event
+eventsOf f = eventsIn (f .table) 0 (f .count)
