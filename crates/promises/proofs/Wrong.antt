@@ -1,0 +1,207 @@
+-- Two wrong answers for each public contract, tried on an input that tells them: none of them meets it.
+-- Assumes nothing.
+use mathlib.Core.Path.{_≡_, refl}
+use mathlib.Core.Bool.{Bool, true, false, _||_}
+use mathlib.Core.List.{List, [], _∷_, _++_, map}
+use mathlib.Core.Option.{Option, none, some}
+use Prim.Native.Nat.{ℕ, _+_}
+use lib.ListN.{length, replicate}
+use Rattle.cases.specs.Cases.{two, four, headOf, mark, sidesOf, guessed, guessOf, pattern, only, sameFrom, sameNumbers}
+use Rattle.cases.specs.declared.Guessed.{Guessed}
+use Rattle.cases.specs.declared.Guessed.the-variants as guesses
+use Rattle.classes.specs.Classes.{isWhite, isBlank, isPopWhite, isDigit, isLetter, isUpper, upperOf}
+use Rattle.direction.specs.Direction.{side, guessNumber, guess, confirm}
+use Rattle.direction.specs.declared.Guess.the-variants.{Swapped}
+use Rattle.entries.specs.Entries.{entryOf}
+use Rattle.entries.specs.declared.Entry.the-variants as entry
+use Rattle.entries.specs.declared.Letter.{Letter}
+use Rattle.entries.specs.declared.Letter.the-variants as letter
+use Rattle.events.specs.Events.{ev, numbers, resultNumber, encodingNumber, sizedBody}
+use Rattle.events.specs.Table.{Final, final, store, pour, finish, tableOf}
+use Rattle.events.specs.declared.Encoding.the-variants.{Base64}
+use Rattle.events.specs.declared.Outcome.the-variants.{Done, TooDeep}
+use Rattle.fields.specs.Common.{encodingNamed, behindSpaces, transferEncoding, closed, quoted, unquoted, typed, named, bareParameter, parameter, contentType, contentTypeExt, firstEncoding, byType, byExt, byBoundary, scanned, unknown, dashBdry}
+use Rattle.fields.specs.Imap.{appendFollows, isAppend, dark, trimmed, braced, fromBrace, sizeOf, appendSize, holdsColon}
+use Rattle.fields.specs.Pop3.{stlsAnswer, octets, octetsFollow, numbered, retrAnswer}
+use Rattle.fields.specs.Runs.{runs, lead, last, lastPlace, through, worthBehind, worth, upTo}
+use Rattle.fields.specs.Smtp.{startsWithHelo, isMailFrom, secondLine, isData, upToEnd, closing as closingAt, mailFrom, required, rcptTo}
+use Rattle.fields.specs.declared.common.Bdry.{Bdry}
+use Rattle.fields.specs.declared.common.Bdry.the-variants as bdry
+use Rattle.fields.specs.declared.common.ContentType.{ContentType}
+use Rattle.fields.specs.declared.common.ContentType.the-variants as kind
+use Rattle.fields.specs.declared.runs.Number.{Number}
+use Rattle.fields.specs.declared.runs.Number.the-variants as number
+use Rattle.fields.specs.declared.runs.Run.the-variants as run
+use Rattle.fields.specs.declared.smtp.Address.{Address}
+use Rattle.fields.specs.declared.smtp.Address.the-variants as address
+use Rattle.fields.specs.declared.smtp.Second.{Second}
+use Rattle.fields.specs.declared.smtp.Second.the-variants as line
+use Rattle.listing.specs.Listing.{spelled, word, line as textLine, eventAt, eventLines, listing}
+use Rattle.reading.specs.Bytes.{startsWith, same, endsWith, raised, first, firstPlace, holds, stands, found, contains}
+use Rattle.reading.specs.Reading.{clean, dropEnd, mayStand, delimits, past, reach, parted, fetch, aLine}
+use Rattle.reading.specs.Text.{text}
+use Rattle.reading.specs.declared.Place.{Place}
+use Rattle.reading.specs.declared.Place.the-variants.{At, Nowhere}
+use Rattle.rules.specs.Imap.{onCommand, onOffered}
+use Rattle.rules.specs.Machine.{turn, go, run as runs-on}
+use Rattle.rules.specs.Phases.{wants, need}
+use Rattle.rules.specs.Pop3.{onStatus}
+use Rattle.rules.specs.Sessions.{reacts, react, resultOf, placeOf, settle, answer, smtpClient, smtpServer, pop3Server, imapClient}
+use Rattle.rules.specs.Smtp.{onHello, given, bySecond, onSecond, byRecipient, onRecipient, onReply}
+
+-- ---- tests: one that always says yes, and one that never does
+abbrev says-yes : List Bool
+says-yes =
+    isWhite 11 ∷ isBlank 9 ∷ isPopWhite 10 ∷ isDigit 48 ∷ isLetter 97 ∷ isUpper 65
+    ∷ startsWith (text "ab") (text "abc") ∷ startsWith (raised (text "ab")) (raised (text "ABc"))
+    ∷ same (text "ab") (text "ab") ∷ same (raised (text "ab")) (raised (text "aB")) ∷ endsWith (text "bc") (text "abc") ∷ contains (raised (text "tls")) (raised (text "STLS"))
+    ∷ dashBdry (text "q") (text "--q--\r\n") ∷ isAppend (text "a APPEND") ∷ holdsColon (text "a:")
+    ∷ stlsAnswer (text "+OK Tls") ∷ retrAnswer (text "+OK 1 octets") ∷ octets (text "4294967295")
+    ∷ startsWithHelo (text "ehlo") ∷ isMailFrom (text "mail from:") ∷ isData (text "data")
+    ∷ only 7 (7 ∷ []) ∷ sameNumbers (513 ∷ []) (1 ∷ 2 ∷ 0 ∷ 0 ∷ [])
+    ∷ []
+
+abbrev says-no : List Bool
+says-no =
+    isWhite 14 ∷ isBlank 10 ∷ isPopWhite 11 ∷ isDigit 58 ∷ isLetter 91 ∷ isUpper 97
+    ∷ startsWith (text "ab") (text "a") ∷ startsWith (raised (text "ab")) (raised (text "AC"))
+    ∷ same (text "ab") (text "abc") ∷ same (raised (text "ab")) (raised (text "a")) ∷ endsWith (text "bc") (text "bcd") ∷ contains (raised (text "tls")) (raised (text "tl"))
+    ∷ dashBdry (text "q") (text "--q\n") ∷ isAppend (text "APPEND") ∷ holdsColon (text "a")
+    ∷ stlsAnswer (text "-ERR tls") ∷ retrAnswer (text "+OK12 octets") ∷ octets (text "4294967296")
+    ∷ startsWithHelo (text "helx") ∷ isMailFrom (text "mail from") ∷ isData (text "dat")
+    ∷ only 7 (7 ∷ 8 ∷ []) ∷ sameNumbers (513 ∷ []) (1 ∷ 3 ∷ 0 ∷ 0 ∷ [])
+    ∷ []
+
+pub neither-always-nor-never : (says-yes ≡ replicate 23 true) × (says-no ≡ replicate 23 false)
+unfolding isWhite isBlank isPopWhite isDigit isLetter isUpper upperOf startsWith same endsWith raised contains found first firstPlace stands holds dashBdry isAppend appendFollows lead runs holdsColon stlsAnswer retrAnswer numbered octets octetsFollow worth worthBehind startsWithHelo isMailFrom isData only sameNumbers sameFrom four two
+neither-always-nor-never = (refl, refl)
+
+-- ---- answers as numbers
+abbrev place : Place → List ℕ
+place (At p) = p ∷ []
+place Nowhere = []
+
+abbrev bound : Bdry → List ℕ
+bound (bdry.Of o n) = o ∷ n ∷ []
+bound bdry.Unsupplied = []
+
+abbrev type : ContentType → List ℕ
+type kind.Other = 0 ∷ []
+type kind.Plain = 1 ∷ []
+type (kind.Bounded o n) = 2 ∷ o ∷ n ∷ []
+
+abbrev worthOf : Number → List ℕ
+worthOf (number.Worth n) = n ∷ []
+worthOf number.TooBig = []
+
+abbrev found-at : Address → List ℕ
+found-at (address.Given o n) = o ∷ n ∷ []
+found-at address.Missing = []
+
+abbrev second : Second → List ℕ
+second line.StartTls = 0 ∷ []
+second line.AuthLogin = 1 ∷ []
+second line.MailFrom = 2 ∷ []
+second line.Other = 3 ∷ []
+
+abbrev entered : Letter → List ℕ
+entered (letter.Of entry.SmtpClient) = 0 ∷ []
+entered (letter.Of entry.SmtpServer) = 1 ∷ []
+entered (letter.Of entry.Pop3Server) = 2 ∷ []
+entered (letter.Of entry.ImapClient) = 3 ∷ []
+entered letter.Other = 4 ∷ []
+
+abbrev guessNo : Guessed → List ℕ
+guessNo (guesses.Number n) = n ∷ []
+guessNo guesses.Broken = []
+
+abbrev known : Option (List ℕ) → List ℕ
+known (some b) = b
+known none = []
+
+abbrev outcome : Final → List ℕ
+outcome f = resultNumber (f .result) ∷ f .place ∷ f .count ∷ f .table
+
+record Row : Type 0 where
+  right : List ℕ
+  one : List ℕ
+  other : List ℕ
+
+abbrev _is-neither_nor_ : List ℕ → List ℕ → List ℕ → Row
+r is-neither a nor b = record { right = r; one = a; other = b }
+
+infix 1 _is-neither_nor_
+abbrev met : Row → Bool
+met r = same (r .right) (r .one) || same (r .right) (r .other)
+
+abbrev greeting : List ℕ
+greeting = text "EHLO a\r\nMAIL FROM: <b@c>\r\n"
+
+abbrev leaves : List Row
+leaves =
+    -- upper: as it was; moved though it is no letter
+    (upperOf 97 ∷ upperOf 123 ∷ [] is-neither 97 ∷ 123 ∷ [] nor 65 ∷ 91 ∷ []) ∷
+    -- line_end: without the LF; the last line's
+    (place (reach aLine (text "a\nb\n")) is-neither 1 ∷ [] nor 4 ∷ []) ∷
+    -- find_byte, find: the last place; none
+    (place (firstPlace (holds 98 (text "abb")) (text "abb")) is-neither 2 ∷ [] nor []) ∷
+    (place (firstPlace (stands (text "bb") (text "abbb")) (text "abbb")) is-neither 2 ∷ [] nor []) ∷
+    -- clean_end: both CRs dropped; none
+    (length (clean (text "a\r\r\n")) ∷ [] is-neither 1 ∷ [] nor 3 ∷ []) ∷
+    -- delimiter: inside a line; with the CRLF before it
+    (place (firstPlace (delimits (text "q") (text "x--q\r\n--q")) (text "x--q\r\n--q")) is-neither 1 ∷ [] nor 4 ∷ []) ∷
+    -- Event::new: offset and length changed over; no encoding
+    (numbers (ev sizedBody 25 3 Base64) is-neither 4 ∷ 3 ∷ 25 ∷ 5 ∷ [] nor 4 ∷ 25 ∷ 3 ∷ 0 ∷ []) ∷
+    -- put: nothing written; a number past the slot written
+    (tableOf (7 ∷ 7 ∷ 7 ∷ 7 ∷ 7 ∷ []) 0 (ev sizedBody 25 3 Base64) is-neither 7 ∷ 7 ∷ 7 ∷ 7 ∷ 7 ∷ [] nor 4 ∷ 25 ∷ 3 ∷ 5 ∷ 0 ∷ []) ∷
+    -- number of a result, of a guess: the next one; 0
+    (resultNumber TooDeep ∷ [] is-neither 10 ∷ [] nor 0 ∷ []) ∷
+    (guessNumber Swapped ∷ [] is-neither 2 ∷ [] nor 0 ∷ []) ∷
+    -- dir_confirm: as given; unknown
+    (guessNumber (guess 1 (side 25 false []) (side 9 false [])) ∷ [] is-neither 0 ∷ [] nor 2 ∷ []) ∷
+    -- transfer_encoding: of this case only; another one
+    (encodingNumber (transferEncoding (text "content-transfer-encoding:BASE64\r\n")) ∷ [] is-neither 0 ∷ [] nor 4 ∷ []) ∷
+    -- content_type: with its quotes; no boundary
+    (type (contentType (text "Content-Type: boundary=\"q\"\r\n")) is-neither 2 ∷ 23 ∷ 3 ∷ [] nor 1 ∷ []) ∷
+    -- content_type_ext: the LF left out; nothing
+    (bound (contentTypeExt (text "\tboundary=q\n")) is-neither 10 ∷ 1 ∷ [] nor []) ∷
+    -- scan_line: the last boundary wins; none is known
+    (known (scanned (scanned unknown (text "Content-Type: boundary=q\r\n")) (text "Content-Type: boundary=z\r\n") .boundary) is-neither text "z" nor []) ∷
+    -- append_size: the first brace closes all; too large a number wraps
+    (appendSize (text "{10}}") ∷ appendSize (text "{18446744073709551616}") ∷ [] is-neither 0 ∷ 0 ∷ [] nor 10 ∷ 18446744073709551616 ∷ []) ∷
+    -- leading: one too many; none
+    (lead run.Digits (text "12a") ∷ [] is-neither 3 ∷ [] nor 0 ∷ []) ∷
+    -- find_last: the first place; none
+    (place (lastPlace (holds 98 (text "abb")) (text "abb")) is-neither 1 ∷ [] nor []) ∷
+    -- decimal: above its bound; in the other order
+    (worthOf (upTo 20 (worth (text "12"))) is-neither [] nor 21 ∷ []) ∷
+    -- second_line: anything else; STARTTLS
+    (second (secondLine (text "auth login")) is-neither 3 ∷ [] nor 0 ∷ []) ∷
+    -- mail_from: with the >; nothing where it has none
+    (found-at (mailFrom (text "MAIL FROM: <b>")) ++ found-at (mailFrom (text "MAIL FROM: <b")) is-neither 12 ∷ 2 ∷ 12 ∷ 1 ∷ [] nor 12 ∷ 1 ∷ []) ∷
+    -- rcpt_to: with the >; up to the line's end where it has none
+    (found-at (rcptTo (text "RCPT TO: <b>")) ++ found-at (rcptTo (text "RCPT TO: <b")) is-neither 10 ∷ 2 ∷ [] nor 10 ∷ 1 ∷ 10 ∷ 1 ∷ []) ∷
+    -- listing's number, put, append: backwards; without what stands behind
+    (word 12 10 is-neither 50 ∷ 49 ∷ 10 ∷ [] nor 49 ∷ 50 ∷ []) ∷
+    (listing (final [] Done 1 0) is-neither text "0 0 1\n" nor text "0 1\n") ∷
+    -- cases' number, head_of, guess, fill: the greatest first; one number too few
+    (four (1 ∷ 2 ∷ 0 ∷ 0 ∷ []) 0 ∷ [] is-neither 16908288 ∷ [] nor 258 ∷ []) ∷
+    (headOf (83 ∷ 1 ∷ 0 ∷ 0 ∷ 0 ∷ 2 ∷ 0 ∷ 0 ∷ 0 ∷ []) .slots ∷ headOf (83 ∷ 1 ∷ 0 ∷ 0 ∷ 0 ∷ 2 ∷ 0 ∷ 0 ∷ 0 ∷ []) .length ∷ [] is-neither 2 ∷ 1 ∷ [] nor 2 ∷ 2 ∷ []) ∷
+    (guessNo (guessOf (9 ∷ [])) ++ guessNo (guessOf (9 ∷ 0 ∷ 0 ∷ 0 ∷ 0 ∷ 0 ∷ 0 ∷ 0 ∷ 0 ∷ 0 ∷ 0 ∷ 0 ∷ 0 ∷ [])) is-neither [] nor 0 ∷ 3 ∷ []) ∷
+    (replicate 2 pattern is-neither pattern ∷ [] nor 0 ∷ 0 ∷ []) ∷
+    -- entry_of: the server for the client; none
+    (entered (entryOf 83) is-neither 1 ∷ [] nor 4 ∷ []) ∷
+    []
+
+-- the entries and `dissect`: a dissector that refuses everything; one with a constant answer; one that writes nothing; one whose count is made up
+abbrev dissectors : List Row
+dissectors =
+    (outcome (smtpClient (replicate 4 99) greeting) is-neither 3 ∷ 0 ∷ 0 ∷ replicate 4 99 nor 1 ∷ 26 ∷ 1 ∷ replicate 4 99) ∷
+    (outcome (smtpServer (replicate 4 99) (text "221\n")) is-neither 1 ∷ 0 ∷ 0 ∷ replicate 4 99 nor 0 ∷ 4 ∷ 1 ∷ replicate 4 99) ∷
+    (outcome (pop3Server (replicate 8 99) (text "+OK\n+OK tls\n")) is-neither 0 ∷ 12 ∷ 1 ∷ 8 ∷ 0 ∷ 3 ∷ 0 ∷ replicate 4 99 nor 0 ∷ 12 ∷ 3 ∷ 8 ∷ 0 ∷ 3 ∷ 0 ∷ 8 ∷ 4 ∷ 7 ∷ 0 ∷ []) ∷
+    (outcome (imapClient (replicate 4 99) (text "a\nb")) is-neither 0 ∷ 2 ∷ 1 ∷ 7 ∷ 0 ∷ 1 ∷ 0 ∷ [] nor 1 ∷ 2 ∷ 1 ∷ replicate 4 99) ∷
+    []
+
+pub wrong-answers : map met (leaves ++ dissectors) ≡ replicate 33 false
+unfolding answer settle resultOf placeOf react reacts need wants runs-on go turn fetch parted reach past first firstPlace holds stands found contains delimits mayStand startsWith same endsWith raised clean dropEnd upperOf isLetter isUpper isWhite isBlank isPopWhite isDigit store pour finish lead runs last lastPlace through worth worthBehind upTo transferEncoding encodingNamed behindSpaces closed quoted unquoted typed named bareParameter parameter contentType contentTypeExt firstEncoding byType byExt byBoundary scanned dashBdry startsWithHelo isMailFrom secondLine isData upToEnd closingAt mailFrom required rcptTo stlsAnswer octets octetsFollow numbered retrAnswer appendFollows isAppend dark trimmed braced fromBrace sizeOf appendSize holdsColon onHello given bySecond onSecond onRecipient byRecipient onReply onStatus onCommand onOffered guess confirm spelled word textLine eventAt eventLines listing four two headOf sidesOf mark guessed guessOf entryOf
+wrong-answers = refl
