@@ -1,0 +1,9 @@
+-- `mailindex::mailindex_direction` meets its contract. Assumes nothing.
+use mathlib.Core.Path.{ap, _∙_}
+use borrow.Author.Needs.{needs}
+use Rattle.direction.specs.Direction.{guessNumber}
+use Rattle.mailindex.proofs.mailindex_direction.Statement.{statement}
+use Rattle.mailindex.proofs.mailindex_direction.Tie as tie
+
+pub mailindex-direction-spec : {M : Type 1} → statement M
+mailindex-direction-spec = tie.close (tie.spec (λ c _. search needs) (λ c _. search needs) (λ c. c .number .ensures ∙ ap guessNumber (c .before .dir-confirm .ensures)))

@@ -1,0 +1,8 @@
+-- `mailindex::mailindex_smtp_server` meets its contract. Assumes nothing.
+use borrow.Author.Needs.{needs}
+use Rattle.mailindex.proofs.Laws.{answers}
+use Rattle.mailindex.proofs.mailindex_smtp_server.Statement.{statement}
+use Rattle.mailindex.proofs.mailindex_smtp_server.Tie as tie
+
+pub mailindex-smtp-server-spec : {M : Type 1} → statement M
+mailindex-smtp-server-spec = tie.close (tie.spec (λ c _. search needs) (λ c _. search needs) (λ c. search needs) (λ c. answers (c .before .before .before .smtp-server .ensures) (c .numbers .ensures)))

@@ -1,0 +1,17 @@
+-- What a caller in C gets: the table, and an answer's three numbers.
+-- Assumes nothing.
+use mathlib.Core.Path.{_≡_}
+use mathlib.Core.List.{List, [], _∷_}
+use Prim.Native.Nat.{ℕ}
+use Rattle.events.specs.Events.{resultNumber}
+use Rattle.events.specs.Table.{Final}
+use Rattle.events.specs.declared.Answer.{Answer}
+
+-- result, place, count
+abbrev pub numbersOf : Answer → List ℕ
+numbersOf a = resultNumber (a .result) ∷ a .place ∷ a .count ∷ []
+
+-- u is the table that f says, and n the numbers of its result, place and count
+pub record Answers (f : Final) (u n : List ℕ) : Type 0 where
+  pub table : u ≡ f .table
+  pub numbers : n ≡ resultNumber (f .result) ∷ f .place ∷ f .count ∷ []
