@@ -40,6 +40,8 @@ const KNOWN_PANIC: &str = "panic in imap.rs: attempt to subtract with overflow";
 pub struct Judge<T> {
     parsers: Parsers<T>,
     overlays: bool,
+    /// Sessions are known to be ASCII, so that nobody has to look.
+    ascii: bool,
 }
 
 pub type PlainJudge = Judge<Plain>;
@@ -47,7 +49,11 @@ pub type SwiftJudge = Judge<Swift>;
 
 impl<T: Packet + 'static> Judge<T> {
     pub fn new(overlays: bool) -> Self {
-        Judge { parsers: Parsers::new(), overlays }
+        Judge { parsers: Parsers::new(), overlays, ascii: false }
+    }
+
+    pub fn for_ascii() -> Self {
+        Judge { parsers: Parsers::new(), overlays: true, ascii: true }
     }
 
     pub fn answer(&self, case: &Case) -> Answer {
@@ -65,7 +71,7 @@ impl<T: Packet + 'static> Judge<T> {
         }
         let (slots, levels) = if self.overlays { (slots, LEVELS) } else { (usize::MAX, usize::MAX) };
         let trace = Trace::new(bytes, slots, levels, events);
-        let mut stream = unsafe { PktStrm::<T>::new(bytes, &trace) };
+        let mut stream = unsafe { PktStrm::<T>::new(bytes, self.ascii || bytes.is_ascii(), &trace) };
         let future = self.future(entry, &mut stream, &trace);
         let unjudged = poll(future, &trace);
         let phase = trace.phase();

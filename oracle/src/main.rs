@@ -14,6 +14,7 @@ mod lens;
 mod list;
 mod packet;
 mod parser;
+mod race;
 mod reading;
 mod rng;
 mod selftest;
@@ -37,6 +38,7 @@ const USAGE: &str = "usage:
   oracle list [--slots N] [--plain] [--no-overlays] [--any-length] a session from standard input
   oracle batch FILE [--second]                                     listings of a batch file; by the second reading
   oracle bench ENTRY FILE [--plain]                                times one large session
+  oracle race LIBRARY                                              the proved library's speed beside the Rust's
   oracle generate CASES OUT                                        a batch file of made cases
   oracle compare CASES                                             the oracle against the second reading
   oracle compare FILE                                              the same over a batch file
@@ -108,6 +110,7 @@ fn run(words: &Words) -> Result<bool, String> {
         ["list"] => list::list(words),
         ["batch", file] => list::batch(file, words.has("--second")),
         ["bench", entry, file] => list::bench(entry, file, words.has("--plain")),
+        ["race", library] => race::run(library),
         ["generate", out] => stored::generate(words.generator(), words.numbers(), out),
         ["compare"] => {
             let generator = words.generator();

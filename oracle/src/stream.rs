@@ -24,12 +24,12 @@ pub struct PktStrm<T> {
 
 impl<T: Packet> PktStrm<T> {
     /// The caller keeps `bytes` and `trace` alive as long as the stream and every future made from it.
-    pub unsafe fn new(bytes: &[u8], trace: &Trace) -> Self {
+    pub unsafe fn new(bytes: &[u8], ascii: bool, trace: &Trace) -> Self {
         let bytes = unsafe { std::slice::from_raw_parts(bytes.as_ptr(), bytes.len()) };
         PktStrm {
             bytes,
             trace,
-            ascii: bytes.is_ascii(),
+            ascii,
             held: true,
             form: PhantomData,
         }
@@ -37,7 +37,7 @@ impl<T: Packet> PktStrm<T> {
 
     /// A stream of which only the first payload is looked at, if it is held.
     pub unsafe fn payload(bytes: &[u8], held: bool, trace: &Trace) -> Self {
-        let mut stream = unsafe { Self::new(bytes, trace) };
+        let mut stream = unsafe { Self::new(bytes, bytes.is_ascii(), trace) };
         stream.held = held;
         stream
     }
