@@ -104,3 +104,15 @@ enough (e ∷ es) t n h =
 pub enough-plain : (es : List Event) (t : List ℕ) (r : Outcome) (p : ℕ) → length es ≤ slots t → finish (pour es t 0) r p ≡ final (fill es t 0) r p (length es)
 unfolding finish
 enough-plain es t r p h = rw (enough es t 0 (omega arith), zero-add)
+
+-- ---- the count grows by one at most for each event
+pour-count-if : (b : Bool) (a : Poured) (t : List ℕ) (q n m : ℕ) (r : Outcome) (p : ℕ) → n ≤ m → finish a r p .count ≤ m → finish (cond b a (full t q n)) r p .count ≤ m
+unfolding finish
+pour-count-if true a t q n m r p h g = g
+pour-count-if false a t q n m r p h g = h
+
+pub pour-count : (es : List Event) (t : List ℕ) (n : ℕ) (r : Outcome) (p : ℕ) → finish (pour es t n) r p .count ≤ n + length es
+unfolding pour finish
+pour-count [] t n r p = omega arith
+pour-count (e ∷ es) t n r p =
+    pour-count-if (ltb n (slots t)) (pour es (store t n e) (n + 1)) t _ n (n + suc (length es)) r p (omega arith) (omega (arith, pour-count es (store t n e) (n + 1) r p))

@@ -1,6 +1,7 @@
 pub mod Machines
+pub mod Cases
+pub mod Counting
 pub mod Given
 pub mod Changes
 pub mod Blind
 pub mod Secrecy
-mod Cases
