@@ -1,34 +1,101 @@
--- What a case's text is.
+-- What the program writes for a record: oracle/README.md, 'Formats', and the words of its own.
 -- Assumes nothing.
 use mathlib.Core.Path.{_≡_}
-use mathlib.Core.Bool.{true}
-use mathlib.Core.List.{List}
-use Prim.Native.Nat.{ℕ, _*_, _≤_}
-use lib.ListN.{length, drop}
-use Rattle.cases.specs.Cases.{pattern, only}
-use Rattle.events.specs.Table.{final}
-use Rattle.events.specs.declared.Answer.{Answer}
-use Rattle.listing.specs.Listing.{Puts, listing}
+use mathlib.Core.Bool.{cond}
+use mathlib.Core.List.{List, []}
+use Prim.Native.Nat.{ℕ, _+_, _*_, _-_, _/_, _%_, _≤_, _<_}
+use lib.Dec.{eqb, ltb}
+use lib.ListN.{length, take, drop, replicate}
+use Rattle.cases.specs.Cases.{headOf, guessOf, pattern, only}
+use Rattle.cases.specs.declared.Guessed.{Guessed}
+use Rattle.cases.specs.declared.Guessed.the-variants.{Number, Broken}
+use Rattle.cases.specs.declared.Head.{Head}
+use Rattle.entries.specs.Entries.{entryOf, answerOf}
+use Rattle.entries.specs.declared.Letter.{Letter}
+use Rattle.entries.specs.declared.Letter.the-variants.{Of, Other}
+use Rattle.events.specs.Table.{Final}
+use Rattle.listing.specs.Listing.{Puts, word, listing}
+use Rattle.reading.specs.Text.{text}
 use Rattle.batch.specs.declared.Text.{Text}
 use Rattle.batch.specs.declared.Text.the-variants.{Case, Last}
+
+-- the text of a case, behind which another may follow, or the last text of the run
+pub data Said : Type 0 where
+  case : (bytes : List ℕ) → Said
+  last : (bytes : List ℕ) → Said
+
+-- ---- what is said of a record
+
+-- a direction guess: its number on a line
+unfoldable pub guessSaid : Guessed → Said
+guessSaid (Number n) = case (word n 10)
+guessSaid Broken = last (text "broken\n")
+
+-- a session's answer: its listing, if that has room for certain and no number behind the events was written
+unfoldable pub listed : ℕ → Final → Said
+listed room f =
+    cond (ltb ((room - 63) / 84) (f .count)) (last (text "large\n"))
+    (cond (only pattern (drop (4 * f .count) (f .table))) (case (listing f))
+    (last (text "touched\n")))
+
+-- the numbers of the table that is lent: four for each slot, and some over, which change nothing
+abbrev pub lentSize : ℕ → List ℕ → ℕ
+lentSize slots s = 4 * slots + length s % 4
+
+-- a session, whose table is lent from one of so many numbers and holds nothing but the pattern
+unfoldable pub sessionSaid : Letter → ℕ → ℕ → ℕ → List ℕ → Said
+sessionSaid (Of e) slots numbers room s =
+    cond (ltb (numbers / 4) slots) (last (text "large\n"))
+    (cond (ltb numbers (lentSize slots s)) (last (text "large\n"))
+    (listed room (answerOf e (replicate (lentSize slots s) pattern) s)))
+sessionSaid Other slots numbers room s = last (text "broken\n")
+
+-- by the letter: D asks for a direction, the entries' letters for a session
+unfoldable pub saidOf : ℕ → ℕ → ℕ → ℕ → List ℕ → Said
+saidOf letter slots numbers room s = cond (eqb letter 68) (guessSaid (guessOf s)) (sessionSaid (entryOf letter) slots numbers room s)
+
+-- ---- what a read can come to; nothing is known of the bytes before they are read
+
+-- the read failed, or the input ended before the last byte
+pub data Missed : Said → Type 0 where
+  unread : Missed (last (text "unread\n"))
+  cut : Missed (last (text "cut\n"))
+
+-- behind the head h, with the buffer b afterwards: too many bytes for the buffer, or not all of them, or all
+pub data OfRecord (h : Head) (b : List ℕ) (numbers room : ℕ) : Said → Type 0 where
+  large : length b < h .length → OfRecord h b numbers room (last (text "large\n"))
+  partly : {x : Said} → Missed x → OfRecord h b numbers room x
+  whole : h .length ≤ length b → OfRecord h b numbers room (saidOf (h .letter) (h .slots) numbers room (take (h .length) b))
+
+-- where a record may begin: the end of the input, or no head, or nine bytes of one and what stands behind them
+pub data OfInput (b : List ℕ) (numbers room : ℕ) : Said → Type 0 where
+  end : OfInput b numbers room (last [])
+  headless : {x : Said} → Missed x → OfInput b numbers room x
+  behind : {x : Said} (head : List ℕ) → length head ≡ 9 → OfRecord (headOf head) b numbers room x → OfInput b numbers room x
+
+-- ---- how it is shown
+
+abbrev pub bytesOf : Said → List ℕ
+bytesOf (case t) = t
+bytesOf (last t) = t
+
+abbrev pub textOf : Said → Text
+textOf (case t) = Case (length t)
+textOf (last t) = Last (length t)
 
 -- how many bytes a text has
 abbrev pub size : Text → ℕ
 size (Case n) = n
 size (Last n) = n
 
--- the text has room
-pub record Within (x : Text) (room : ℕ) : Type 0 where
-  pub fits : size x ≤ room
+-- o has become u, at whose front the bytes stand, and r says how many they are
+pub record Shows (o : List ℕ) (x : Said) (r : Text) (u : List ℕ) : Type 0 where
+  pub is : r ≡ textOf x
+  pub puts : Puts o 0 (bytesOf x) (size r) u
+  pub fits : size r ≤ length u
 
--- a word that has room, the last text of the run
-pub record Says (x : Text) (room : ℕ) : Type 0 where
-  pub within : Within x room
-  pub last : (n : ℕ) → x ≡ Case n → ⊥
-
--- o has become u, which holds the text x: the text of a case is the listing of the answer a with the table t, and behind the events the table
--- holds nothing but the pattern
-pub record Lists (o t : List ℕ) (a : Answer) (x : Text) (u : List ℕ) : Type 0 where
-  pub within : Within x (length u)
-  pub puts : (n : ℕ) → x ≡ Case n → Puts o 0 (listing (final t (a .result) (a .place) (a .count))) n u
-  pub untouched : (n : ℕ) → x ≡ Case n → only pattern (drop (4 * a .count) t) ≡ true
+-- it shows one of the texts that can be
+pub record ShowsOne (can : Said → Type 0) (o : List ℕ) (r : Text) (u : List ℕ) : Type 0 where
+  pub said : Said
+  pub one : can said
+  pub shows : Shows o said r u

@@ -3,7 +3,8 @@
 // or too large; behind one of these the run ends.
 ghost use Prim.Native.Nat.{_*_, _≤_};
 ghost use lib.ListN.{length};
-ghost use Rattle.batch.specs.Batch.{Within, Says, Lists};
+ghost use Rattle.events.specs.Table.{final};
+ghost use Rattle.batch.specs.Batch.{Shows, ShowsOne, OfInput, OfRecord, last, listed, saidOf};
 use cases::Guessed;
 use cases::Head;
 use entries::Letter;
@@ -55,7 +56,7 @@ fn list_all(bytes: &mut [u8], table: &mut [u32], out: &mut [u8])
 
 fn next(bytes: &mut [u8], table: &mut [u32], out: &mut [u8]) -> Text
     requires { ⌜ 64 ≤ length (now out) ⌝ }
-    ensures { λ r. ⌜ Within r (length (now (out .exit))) ⌝ }
+    ensures { λ r. ⌜ ShowsOne (OfInput (now (bytes .exit)) (length (now (table .entry))) (length (now (out .entry)))) (now (out .entry)) r (now (out .exit)) ⌝ }
 {
     let mut head = [0u8; cases::HEAD];
     match input::fill(STDIN_FILENO, &mut head) {
@@ -74,7 +75,7 @@ fn next(bytes: &mut [u8], table: &mut [u32], out: &mut [u8]) -> Text
 
 fn last(out: &mut [u8], word: &[u8]) -> Text
     requires { ⌜ length (now word) ≤ length (now out) ⌝ }
-    ensures { λ r. ⌜ Says r (length (now (out .exit))) ⌝ }
+    ensures { λ r. ⌜ Shows (now (out .entry)) (last (now (word .entry))) r (now (out .exit)) ⌝ }
 {
     Text::Last(listing::put(out, 0, word))
 }
@@ -82,7 +83,7 @@ fn last(out: &mut [u8], word: &[u8]) -> Text
 // The bytes behind a record's head, and what they come to.
 fn read_case(head: Head, bytes: &mut [u8], table: &mut [u32], out: &mut [u8]) -> Text
     requires { ⌜ 64 ≤ length (now out) ⌝ }
-    ensures { λ r. ⌜ Within r (length (now (out .exit))) ⌝ }
+    ensures { λ r. ⌜ ShowsOne (OfRecord head (now (bytes .exit)) (length (now (table .entry))) (length (now (out .entry)))) (now (out .entry)) r (now (out .exit)) ⌝ }
 {
     let length = head.length;
     if bytes.len() < length {
@@ -101,7 +102,7 @@ fn read_case(head: Head, bytes: &mut [u8], table: &mut [u32], out: &mut [u8]) ->
 
 fn case(letter: u8, slots: usize, bytes: &[u8], table: &mut [u32], out: &mut [u8]) -> Text
     requires { ⌜ 64 ≤ length (now out) ⌝ }
-    ensures { λ r. ⌜ Within r (length (now (out .exit))) ⌝ }
+    ensures { λ r. ⌜ Shows (now (out .entry)) (saidOf letter slots (length (now (table .entry))) (length (now (out .entry))) (now (bytes .entry))) r (now (out .exit)) ⌝ }
 {
     if letter == b'D' {
         return match cases::guess(bytes) {
@@ -131,7 +132,7 @@ fn case(letter: u8, slots: usize, bytes: &[u8], table: &mut [u32], out: &mut [u8
 // The listing of an answer, if no number behind its events was written.
 fn list(table: &[u32], a: Answer, out: &mut [u8]) -> Text
     requires { ⌜ (4 * (a .count) ≤ length (now table)) × (64 ≤ length (now out)) ⌝ }
-    ensures { λ r. ⌜ Lists (now (out .entry)) (now (table .entry)) a r (now (out .exit)) ⌝ }
+    ensures { λ r. ⌜ Shows (now (out .entry)) (listed (length (now (out .entry))) (final (now (table .entry)) (a .result) (a .place) (a .count))) r (now (out .exit)) ⌝ }
 {
     if (out.len() - listing::LAST_LINE) / listing::EVENT_LINE < a.count {
         return last(out, b"large\n");

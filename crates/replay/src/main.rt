@@ -4,7 +4,8 @@
 ghost use mathlib.Core.Path.{_≡_};
 ghost use Prim.Native.Nat.{_*_, _≤_};
 ghost use lib.ListN.{length};
-ghost use Rattle.replay.specs.Replay.{agree};
+ghost use Rattle.events.specs.Table.{final};
+ghost use Rattle.replay.specs.Replay.{agree, judge, OrBroken, OfDirection, OfSession, OfRecord, OfFile, indexOf, letterOf, groupOf, countedIn};
 use cases::Guessed;
 use cases::Head;
 use entries::Entry;
@@ -97,7 +98,9 @@ fn replay(
     counted(cases, differences, true)
 }
 
-fn counted(cases: u64, differences: u64, broken: bool) -> Counts {
+fn counted(cases: u64, differences: u64, broken: bool) -> Counts
+    ensures { λ r. ⌜ (r .cases ≡ cases) × (r .differences ≡ differences) × (r .broken ≡ broken) ⌝ }
+{
     Counts {
         cases,
         differences,
@@ -105,13 +108,17 @@ fn counted(cases: u64, differences: u64, broken: bool) -> Counts {
     }
 }
 
-fn count(groups: &mut [u64], group: usize) {
+fn count(groups: &mut [u64], group: usize)
+    ensures { λ _. ⌜ now (groups .exit) ≡ countedIn (now (groups .entry)) group ⌝ }
+{
     if group < groups.len() {
         groups[group] = wrapping_add_u64(groups[group], 1);
     }
 }
 
-fn next_case(fd: i32, bytes: &mut [u8], events: &mut [u8], table: &mut [u32]) -> Next {
+fn next_case(fd: i32, bytes: &mut [u8], events: &mut [u8], table: &mut [u32]) -> Next
+    ensures { λ r. ⌜ OfFile (now (bytes .exit)) (now (events .exit)) r ⌝ }
+{
     let mut head = [0u8; cases::HEAD];
     match input::fill(fd, &mut head) {
         Input::Failed => Next::Broken,
@@ -131,7 +138,9 @@ fn next_case(fd: i32, bytes: &mut [u8], events: &mut [u8], table: &mut [u32]) ->
     }
 }
 
-fn grouped(letter: u8, result: u32, different: u64) -> Next {
+fn grouped(letter: u8, result: u32, different: u64) -> Next
+    ensures { λ r. ⌜ r ≡ groupOf letter result different ⌝ }
+{
     if result > 15 {
         return Next::Broken;
     }
@@ -139,7 +148,7 @@ fn grouped(letter: u8, result: u32, different: u64) -> Next {
 }
 
 fn index(letter: u8) -> usize
-    ensures { λ r. ⌜ r ≤ 4 ⌝ }
+    ensures { λ r. ⌜ (r ≡ indexOf letter) × (r ≤ 4) ⌝ }
 {
     match letter {
         b'S' => 0,
@@ -157,7 +166,9 @@ fn read_case(
     bytes: &mut [u8],
     events: &mut [u8],
     table: &mut [u32],
-) -> Replayed {
+) -> Replayed
+    ensures { λ r. ⌜ OrBroken (OfRecord head (now (bytes .exit)) (now (events .exit))) r ⌝ }
+{
     let length = head.length;
     if bytes.len() < length {
         return Replayed::Broken;
@@ -182,7 +193,9 @@ fn filled(fd: i32, buf: &mut [u8]) -> bool {
     }
 }
 
-fn direction_case(fd: i32, bytes: &[u8]) -> Replayed {
+fn direction_case(fd: i32, bytes: &[u8]) -> Replayed
+    ensures { λ r. ⌜ OrBroken (OfDirection (now (bytes .entry))) r ⌝ }
+{
     let mut stored = [0u8; 4];
     if !filled(fd, &mut stored) {
         return Replayed::Broken;
@@ -194,7 +207,9 @@ fn direction_case(fd: i32, bytes: &[u8]) -> Replayed {
     }
 }
 
-fn judged(same: bool, result: u32) -> Replayed {
+fn judged(same: bool, result: u32) -> Replayed
+    ensures { λ r. ⌜ r ≡ judge same result ⌝ }
+{
     if same {
         return Replayed::Case(result, 0);
     }
@@ -208,7 +223,9 @@ fn session_case(
     bytes: &[u8],
     events: &mut [u8],
     table: &mut [u32],
-) -> Replayed {
+) -> Replayed
+    ensures { λ r. ⌜ OrBroken (OfSession entry slots (now (bytes .entry)) (now (events .exit))) r ⌝ }
+{
     let mut stored = [0u8; ANSWER];
     if !filled(fd, &mut stored) {
         return Replayed::Broken;
@@ -241,7 +258,7 @@ fn session_case(
 // Whether an answer and its table are the stored ones, and no number behind the events was written.
 fn agrees(table: &[u32], a: Answer, stored: &[u8], events: &[u8]) -> bool
     requires { ⌜ (4 * (a .count) ≤ length (now table)) × (12 ≤ length (now stored)) ⌝ }
-    ensures { λ r. ⌜ r ≡ agree (now (table .entry)) a (now (stored .entry)) (now (events .entry)) ⌝ }
+    ensures { λ r. ⌜ r ≡ agree (final (now (table .entry)) (a .result) (a .place) (a .count)) (now (stored .entry)) (now (events .entry)) ⌝ }
 {
     let result = a.result;
     if events::number(result) != cases::number(stored, 0) {
@@ -276,7 +293,9 @@ fn print_group(g: usize, n: u64) {
     io::write_all(STDOUT_FILENO, &out[..end]);
 }
 
-fn letter_of(index: usize) -> u8 {
+fn letter_of(index: usize) -> u8
+    ensures { λ r. ⌜ r ≡ letterOf index ⌝ }
+{
     match index {
         0 => b'S',
         1 => b's',

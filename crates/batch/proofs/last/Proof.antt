@@ -1,8 +1,6 @@
 -- `batch::last` meets its contract. Assumes nothing.
-use native.Mathlib.Omega.{arith}
 use borrow.Author.Needs.{needs}
-use Rattle.listing.proofs.Puts.{puts-length}
-use Rattle.batch.proofs.Laws.{says-last}
+use Rattle.batch.proofs.Laws.{last-shown}
 use Rattle.batch.proofs.last.Statement.{statement}
 use Rattle.batch.proofs.last.Tie as tie
 
@@ -12,4 +10,4 @@ last-spec =
     (tie.spec
     (λ c _. search needs)
     (λ c. search needs)
-    (λ c. says-last (omega (arith, c .before .before .put .ensures .end, puts-length (c .before .before .put .ensures) (omega (arith, c .before .before .before .before .before .before .pre)), c .before .before .before .before .before .before .pre))))
+    (λ c. last-shown (c .before .before .put .ensures) (c .before .before .before .before .before .before .pre)))

@@ -1,11 +1,10 @@
 -- `batch::list` meets its contract. Assumes nothing.
 use mathlib.Core.Path.{sym, ap, _∙_}
-use native.Mathlib.Omega.{arith}
 use borrow.Author.Needs.{needs}
-use borrow.Author.Tests.{not-false}
+use borrow.Author.Tests.{not-true, not-false}
 use Rattle.cases.specs.Cases.{pattern, only}
 use Rattle.reading.proofs.Words.{rest-is}
-use Rattle.batch.proofs.Laws.{says-lists, case-lists}
+use Rattle.batch.proofs.Laws.{large-listed, touched-listed, case-listed}
 use Rattle.batch.proofs.list.Statement.{statement}
 use Rattle.batch.proofs.list.Tie as tie
 
@@ -17,7 +16,7 @@ list-spec =
     (λ c. search needs)
     (λ c _. search needs)
     (λ c. search needs)
-    (λ c. says-lists (c .before .before .last .ensures))
+    (λ c. large-listed _ (c .before .before .before .before .before .if1 .taken) (c .before .before .last .ensures))
     (λ c. search needs)
     (λ c. search needs)
     (λ c. search needs)
@@ -27,7 +26,7 @@ list-spec =
     (λ c. search needs)
     (λ c _. search needs)
     (λ c. search needs)
-    (λ c. says-lists (c .before .before .last2 .ensures))
+    (λ c. touched-listed _ (c .before .before .before .before .before .before .before .before .before .if1 .left) (ap (only pattern) (sym (rest-is (c .before .before .before .before .before .before .before .before .before .before .before .before .before .args .table .now) _)) ∙ sym (c .before .before .before .before .before .before .untouched .ensures) ∙ not-true _ (c .before .before .before .before .before .if2 .taken)) (c .before .before .last2 .ensures))
     (λ c _. search needs)
     (λ c. search needs)
-    (λ c. case-lists (omega (arith, c .before .before .before .before .before .before .before .before .if1 .left, c .before .before .before .before .before .before .before .before .before .before .before .before .pre .1)) (c .before .before .append .ensures) (ap (only pattern) (sym (rest-is (c .before .before .before .before .before .before .before .before .before .before .before .before .args .table .now) _)) ∙ sym (c .before .before .before .before .before .untouched .ensures) ∙ not-false _ (c .before .before .before .before .if2 .left))))
+    (λ c. case-listed _ (c .before .before .before .before .before .before .before .before .if1 .left) (ap (only pattern) (sym (rest-is (c .before .before .before .before .before .before .before .before .before .before .before .before .args .table .now) _)) ∙ sym (c .before .before .before .before .before .untouched .ensures) ∙ not-false _ (c .before .before .before .before .if2 .left)) (c .before .before .before .before .before .before .before .before .before .before .before .before .pre .1) (c .before .before .append .ensures)))

@@ -1,9 +1,12 @@
--- `replay::session_case` is safe. Assumes nothing.
+-- `replay::session_case` meets its contract. Assumes nothing.
 use mathlib.Core.Path.{sym}
 use native.Mathlib.Omega.{arith}
 use lib.Seq.{length-take-le}
 use borrow.Author.Needs.{needs}
-use Rattle.input.proofs.Lent.{lent}
+use Rattle.cases.specs.Cases.{pattern}
+use Rattle.input.proofs.Lent.{lent, lent-room, lent-filled}
+use Rattle.replay.specs.Replay.{broken}
+use Rattle.replay.proofs.Laws.{session-judged}
 use Rattle.replay.proofs.session_case.Statement.{statement}
 use Rattle.replay.proofs.session_case.Tie as tie
 
@@ -13,23 +16,23 @@ session-case-spec =
     (tie.spec
     (λ c. search needs)
     (λ c _. search needs)
-    (λ c. search needs)
+    (λ c. broken)
     (λ c. search needs)
     (λ c _. search needs)
     (λ c. search needs)
-    (λ c. search needs)
+    (λ c. broken)
     (λ c. search needs)
     (λ c. search needs)
     (λ c. sym (length-take-le _ (c .before .before .before .before .before .before .before .before .before .before .before .args .events .now) (omega (arith, c .before .if2 .left))))
     (λ c _. search needs)
     (λ c. search needs)
+    (λ c. broken)
+    (λ c. search needs)
+    (λ c. broken)
     (λ c. search needs)
     (λ c. search needs)
     (λ c. search needs)
-    (λ c. search needs)
-    (λ c. search needs)
-    (λ c. search needs)
-    (λ c. search needs)
+    (λ c. broken)
     (λ c. search needs)
     (λ c. sym (length-take-le _ (c .before .before .before .before .before .before .before .before .before .before .before .before .before .before .before .before .before .before .args .table .now) (c .before .if5 .left)))
     (λ c _. search needs)
@@ -43,4 +46,4 @@ session-case-spec =
     (λ c _. search needs)
     (λ c. search needs)
     (λ c. search needs)
-    (λ c. search needs))
+    (λ c. session-judged _ _ _ _ _ (c .before .before .before .before .before .before .before .before .before .before .before .before .before .before .before .before .before .before .before .before .before .before .before .before .before .before .before .before .before .before .filled .kept .1 .0) (c .before .before .before .before .before .before .before .before .before .before .before .before .before .before .before .before .before .before .before .before .before .before .before .before .before .before .number .ensures) (lent-room _ (c .before .before .before .before .before .before .before .before .before .before .before .before .before .before .before .before .before .before .before .before .before .before .before .before .before .before .before .before .before .before .before .before .before .before .before .args .events .now) (c .before .before .before .before .before .before .before .before .before .before .before .before .before .before .before .before .before .before .before .before .before .before .before .filled2 .last .1 .0) (omega (arith, c .before .before .before .before .before .before .before .before .before .before .before .before .before .before .before .before .before .before .before .before .before .before .before .before .before .if2 .left)) (c .before .before .before .before .before .before .before .before .before .before .before .before .before .before .before .before .before .before .before .before .before .before .before .filled2 .kept .1 .0)) (rw (lent-filled _ (c .before .before .before .before .before .before .before .before .before .before .before .before .before .before .before .before .before .before .before .before .before .before .before .before .before .before .before .before .before .before .before .before .before .before .before .args .table .now) _ (c .before .before .before .before .before .before .before .before .before .before .before .before .before .before .before .before .before .before .if5 .left) pattern (c .before .before .before .before .before .before .before .before .before .before .before .before .before .before .before .fill .ensures)) at (c .before .before .before .before .before .before .before .before .before .before .before .dissect .ensures .0)) (c .before .before .before .before .before .agrees .ensures) (c .before .number2 .ensures) (c .judged .ensures)))
