@@ -1,26 +1,29 @@
 -- What the classes say of a byte's size.
 -- Assumes nothing.
-use mathlib.Core.Path.{_≡_, refl, sym, _∙_}
-use mathlib.Core.Bool.{Bool, true, false, and-false}
-use Prim.Native.Nat.{ℕ, _≤_, _<_}
+use mathlib.Core.Path.{_≡_, refl}
+use mathlib.Core.Bool.{Bool, true, false, not, _&&_, _||_, and-false}
+use Prim.Native.Nat.{ℕ, _-_, _≤_, _<_}
 use native.Mathlib.Omega.{arith}
 use lib.Dec.{leb, eqb}
-use borrow.Author.Tests.{leb-true, leb-false, lt-leb, ne-eqb}
-use Rattle.classes.specs.Classes.{isWhite, isBlank, isPopWhite, isDigit, isLetter, isUpper}
+use borrow.Author.Tests.{le-leb, lt-leb, ne-eqb}
+use Rattle.classes.specs.Classes.{isWhite, isBlank, isPopWhite, isDigit, isLetter, isUpper, upperOf}
 
-below-letters : (b : ℕ) → b < 65 → isLetter b ≡ false
-unfolding isLetter
-below-letters b h =
-    let a : leb 65 b ≡ false = lt-leb 65 b h in
-    let z : leb 97 b ≡ false = lt-leb 97 b (omega arith) in
-    rw (a, z)
+-- a letter's upper case, told by the byte's size
+not-both : (t x : Bool) → ((t || (false && x)) && not t) ≡ false
+not-both true x = refl
+not-both false x = refl
 
-letter-from : (b : ℕ) (t : Bool) → leb 65 b ≡ t → isLetter b ≡ true → 65 ≤ b
-letter-from b true e l = leb-true 65 b e
-letter-from b false e l = let z : _≡_ {A = Bool} true false = cc (below-letters b (leb-false 65 b e)) in absurd (let n : _≡_ {A = ℕ} 0 1 = cc in omega arith)
+pub upper-below : (b : ℕ) → b < 97 → b ≡ upperOf b
+unfolding upperOf isLetter isUpper
+upper-below b h = rw (lt-leb 97 b h, not-both (leb 65 b && leb b 90) (leb b 122)) refl
 
-pub letter-high : (b : ℕ) → isLetter b ≡ true → 65 ≤ b
-letter-high b l = letter-from b (leb 65 b) refl l
+pub upper-above : (b : ℕ) → 122 < b → b ≡ upperOf b
+unfolding upperOf isLetter isUpper
+upper-above b h = rw (lt-leb b 122 h, lt-leb b 90 (omega arith), and-false (leb 65 b), and-false (leb 97 b)) refl
+
+pub upper-moved : (b : ℕ) → 97 ≤ b → b ≤ 122 → b - 32 ≡ upperOf b
+unfolding upperOf isLetter isUpper
+upper-moved b h g = rw (le-leb 97 b h, le-leb b 122 g, lt-leb b 90 (omega arith), and-false (leb 65 b)) refl
 
 -- what holds of every byte above 127
 pub record Unmarked (b : ℕ) : Type 0 where

@@ -324,11 +324,11 @@ pub fn is_upper(b: u8) -> bool
 pub fn upper(b: u8) -> u8
     ensures { λ r. ⌜ r ≡ upperOf b ⌝ }
 {
-    if is_letter(b) {
-        if is_upper(b) {
-            return b;
-        }
-        return b - 32;
+    if b < b'a' {
+        return b;
     }
-    b
+    if b > b'z' {
+        return b;
+    }
+    b - 32
 }

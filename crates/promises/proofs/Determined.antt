@@ -11,6 +11,7 @@ use Rattle.events.specs.declared.Log.{Log}
 use Rattle.fields.specs.Common.{Known, knownOf, Says}
 use Rattle.fields.specs.declared.common.Scan.{Scan}
 use Rattle.listing.specs.Listing as Text
+use Rattle.mailindex.specs.Exports.{Answers}
 use Rattle.promises.specs.Promises.{Outcome, Owes, Determined}
 
 -- a contract that is an equation for the answer
@@ -35,6 +36,10 @@ puts t log e x y h g = both x y (h .answer ∙ sym (g .answer)) (h .table ∙ sy
 -- what is put into a text: where it ends, and the buffer
 pub texts : (o : List ℕ) (at : ℕ) (t : List ℕ) → Determined (λ (x : ℕ × List ℕ). Text.Puts o at t (x .0) (x .1))
 texts o at t x y h g = both x y (h .end ∙ sym (g .end)) (h .is ∙ sym (g .is))
+
+-- the C library's entries: the table and the answer's three numbers
+pub exports : (f : Final) → Determined (λ (x : List ℕ × List ℕ). Answers f (x .0) (x .1))
+exports f x y h g = both x y (h .table ∙ sym (g .table)) (h .numbers ∙ sym (g .numbers))
 
 -- `scan_line`: the boundary's bytes, not which of two equal runs of bytes in the header is meant
 pub scans : (h : List ℕ) (k : Known) (x y : Scan) → Says h k x → Says h k y → knownOf h x ≡ knownOf h y
