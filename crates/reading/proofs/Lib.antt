@@ -3,4 +3,5 @@ pub mod Words
 pub mod Ends
 pub mod Pieces
 pub mod Alike
+pub mod Passing
 mod Cases

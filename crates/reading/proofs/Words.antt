@@ -2,7 +2,7 @@
 -- Assumes nothing.
 use mathlib.Core.Path.{_≡_, refl, sym, ap, _∙_}
 use mathlib.Core.Bool.{Bool, true, false, _&&_, and-assoc}
-use mathlib.Core.List.{List, [], _∷_, _++_}
+use mathlib.Core.List.{List, [], _∷_, _++_, append-nil}
 use Prim.Native.Nat.{ℕ, zero, suc, _+_, _-_, _≤_, _<_}
 use native.Mathlib.Numerals.{add-one}
 use native.Mathlib.Omega.{arith}
@@ -11,7 +11,7 @@ use lib.ListN.{length, take, drop, getD, drop-of-length-le, length-drop, length-
 use lib.Seq.{drop-cons, take-all}
 use borrow.Author.Tests.{eq-eqb, ne-eqb, eqb-true}
 use Rattle.classes.specs.Classes.{upperOf, isLetter, isUpper}
-use Rattle.reading.specs.Bytes.{startsWith, raised}
+use Rattle.reading.specs.Bytes.{startsWith, same, raised}
 
 -- what is left at i is the byte at i and what is left at i + 1
 pub left-at : (s : List ℕ) (i : ℕ) → i < length s → drop i s ≡ getD s i 0 ∷ drop (i + 1) s
@@ -83,6 +83,13 @@ starts-is (x ∷ w) (y ∷ l) e =
     cc (eqb-true y x (t .0), starts-is w l (t .1))
 
 -- a word made of two
+pub same-is : (w l : List ℕ) → same w l ≡ true → l ≡ w
+unfolding same
+same-is w l h =
+    let b = both-true (eqb (length l) (length w)) (startsWith w l) h in
+    let n : length l ≡ length w = eqb-true (length l) (length w) (b .0) in
+    starts-is w l (b .1) ∙ ap (λ (r : List ℕ). w ++ r) (drop-of-length-le l (let m : length l ≤ length w = omega arith in m)) ∙ append-nil w
+
 pub starts-append : (v w l : List ℕ) → startsWith (v ++ w) l ≡ (startsWith v l && startsWith w (drop (length v) l))
 unfolding startsWith
 starts-append [] w l = refl

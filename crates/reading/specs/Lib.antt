@@ -1,3 +1,4 @@
 pub mod Text
 pub mod Bytes
 pub mod Reading
+pub mod Blocks

@@ -3,10 +3,16 @@
 ghost use mathlib.Core.Path.{_≡_};
 ghost use mathlib.Core.Bool.{_&&_};
 ghost use mathlib.Core.List.{[], _∷_};
-ghost use Prim.Native.Nat.{_<_, _≤_};
+ghost use Prim.Native.Nat.{_+_, _<_, _≤_};
 ghost use lib.ListN.{length, take, drop};
-ghost use Rattle.reading.specs.Bytes.{startsWith, same, endsWith, raised, firstPlace, holds, stands, contains};
+ghost use Rattle.reading.specs.Blocks.{dashed, Passed, Next};
+ghost use Rattle.reading.specs.Bytes.{startsWith, same, endsWith, raised, first, firstPlace, found, holds, stands, contains};
 ghost use Rattle.reading.specs.Reading.{clean, dropEnd, dash, mayStand, delimits, reach, aLine};
+
+// Places that are tested at once; many more where few are expected to pass.
+const BLOCK: usize = 16;
+
+const WIDE: usize = 64;
 
 pub enum Place {
     At(usize),
@@ -27,7 +33,7 @@ pub fn line_end(s: &[u8]) -> Place
 pub fn find_byte(s: &[u8], b: u8) -> Place
     ensures { λ r. ⌜ r ≡ firstPlace (holds b (now (s .entry))) (now (s .entry)) ⌝ }
 {
-    let mut p = 0;
+    let mut p = skip_blocks(s, b);
     while p < s.len() {
         if s[p] == b {
             return Place::At(p);
@@ -35,6 +41,34 @@ pub fn find_byte(s: &[u8], b: u8) -> Place
         p += 1;
     }
     Place::Nowhere
+}
+
+// Past the blocks in which the byte does not stand.
+fn skip_blocks(s: &[u8], b: u8) -> usize
+    ensures { λ r. ⌜ Passed (holds b (now (s .entry))) (now (s .entry)) 0 r ⌝ }
+{
+    let mut p = 0;
+    while BLOCK <= s.len() - p {
+        if block_holds(s, p, b) {
+            return p;
+        }
+        p += BLOCK;
+    }
+    p
+}
+
+// Whether one of the bytes of the block at p is b: a loop without a way out, so that the compiler may test them all at once.
+fn block_holds(s: &[u8], p: usize, b: u8) -> bool
+    requires { ⌜ p + 16 ≤ length (now s) ⌝ }
+    ensures { λ r. ⌜ r ≡ found (first (holds b (now (s .entry))) p 16) ⌝ }
+{
+    let mut seen = false;
+    let mut i = 0;
+    while i < BLOCK {
+        seen = seen | (s[p + i] == b);
+        i += 1;
+    }
+    seen
 }
 
 // The length of a line without its LF and one CR before it.
@@ -177,8 +211,53 @@ pub fn delimiter(s: &[u8], b: &[u8]) -> Place
                 k += 1;
             }
         }
+        p = next_dash(s, p + 1);
+    }
+}
+
+// From p on, the first place that holds a hyphen behind an LF, or the end.
+fn next_dash(s: &[u8], from: usize) -> usize
+    requires { ⌜ (0 < from) × (from ≤ length (now s)) ⌝ }
+    ensures { λ r. ⌜ Next (dashed (now (s .entry))) (now (s .entry)) from r ⌝ }
+{
+    let mut p = skip_dashless(s, skip_dashless(s, from, WIDE), BLOCK);
+    while p < s.len() {
+        if s[p] == b'-' {
+            if s[p - 1] == b'\n' {
+                return p;
+            }
+        }
         p += 1;
     }
+    p
+}
+
+// Past blocks of n places in which no hyphen stands behind an LF.
+fn skip_dashless(s: &[u8], from: usize, n: usize) -> usize
+    requires { ⌜ (0 < from) × (from ≤ length (now s)) × (0 < n) ⌝ }
+    ensures { λ r. ⌜ Passed (dashed (now (s .entry))) (now (s .entry)) from r ⌝ }
+{
+    let mut p = from;
+    while n <= s.len() - p {
+        if block_dashed(s, p, n) {
+            return p;
+        }
+        p += n;
+    }
+    p
+}
+
+fn block_dashed(s: &[u8], p: usize, n: usize) -> bool
+    requires { ⌜ (0 < p) × (p + n ≤ length (now s)) ⌝ }
+    ensures { λ r. ⌜ r ≡ found (first (dashed (now (s .entry))) p n) ⌝ }
+{
+    let mut seen = false;
+    let mut i = 0;
+    while i < n {
+        seen = seen | ((s[p + i] == b'-') & (s[p + i - 1] == b'\n'));
+        i += 1;
+    }
+    seen
 }
 
 // Whether p is a place for a delimiter and holds two hyphens.

@@ -7,6 +7,7 @@ use lib.ListN.{length}
 use borrow.Author.Needs.{needs}
 use Rattle.reading.specs.Reading.{delimits}
 use Rattle.reading.proofs.Ends.{Behind, opens-not, behind-none-yet, behind-all, behind-short, behind-differs, behind-on}
+use Rattle.reading.proofs.Passing.{sought-passed, dashless-passed}
 use Rattle.reading.proofs.Places.{Sought, sought-none-yet, sought-here, sought-on, sought-in-vain}
 use Rattle.reading.proofs.delimiter.Statement.{statement}
 use Rattle.reading.proofs.delimiter.Tie as tie
@@ -44,10 +45,11 @@ delimiter-spec =
     (λ c. search needs)
     (λ c. behind-on (c .before .before .before .before .before .loop .inv) (c .before .before .before .before .if3 .left) (c .before .before .before .if4 .left) (c .if5 .left))
     (λ c. search needs)
-    (λ c. search needs)
-    (λ c. sought-on (c .before .before .before .places .inv) (c .before .before .if1 .left)
+    (λ c _. search needs)
+    (λ c. omega (arith, c .next-dash .ensures .passed .on, c .before .before .before .if1 .left))
+    (λ c. sought-passed _ (sought-on (c .before .before .before .before .places .inv) (c .before .before .before .if1 .left)
     (⊎-elim (λ w. behind-short (w .1 .inv) (w .2 .left) (w .3 .taken))
-    (⊎-elim (λ w. behind-differs (w .1 .inv) (w .2 .left) (w .3 .left) (w .6 .taken)) (λ w. opens-not _ _ _ (sym (c .before .opens .ensures) ∙ w .left)))
-    (c .if2 .came)))
+    (⊎-elim (λ w. behind-differs (w .1 .inv) (w .2 .left) (w .3 .left) (w .6 .taken)) (λ w. opens-not _ _ _ (sym (c .before .before .opens .ensures) ∙ w .left)))
+    (c .before .if2 .came))) (dashless-passed _ _ (omega arith) (c .next-dash .ensures .passed)))
     (λ c. sought-in-vain (c .before .places .inv) (c .if1 .taken))
     (λ c. sought-here (c .before .before .before .before .before .places .inv) (c .before .before .before .before .if1 .left) (behind-all (c .before .loop .inv) (c .if3 .taken))))

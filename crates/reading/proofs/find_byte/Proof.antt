@@ -4,6 +4,7 @@ use lib.ListN.{length}
 use borrow.Author.Needs.{needs}
 use borrow.Author.Tests.{eq-eqb, ne-eqb}
 use Rattle.reading.specs.Bytes.{holds}
+use Rattle.reading.proofs.Passing.{sought-passed}
 use Rattle.reading.proofs.Places.{Sought, sought-none-yet, sought-here, sought-on, sought-in-vain}
 use Rattle.reading.proofs.find_byte.Statement.{statement}
 use Rattle.reading.proofs.find_byte.Tie as tie
@@ -28,7 +29,8 @@ find-byte-spec =
     (tie.spec
     Inv-loop
     μ-loop
-    (λ c. sought-none-yet _ _)
+    (λ c _. search needs)
+    (λ c. sought-passed _ (sought-none-yet _ _) (c .skip-blocks .ensures))
     (λ c. search needs)
     returns
     (λ c. search needs)

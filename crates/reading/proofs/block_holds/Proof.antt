@@ -1,0 +1,40 @@
+-- `reading::block_holds` meets its contract: of the first i places it is known whether one passes. Assumes nothing.
+use mathlib.Core.Path.{_≡_, refl, sym}
+use Prim.Native.Nat.{_-_, _≤_}
+use native.Mathlib.Omega.{arith}
+use borrow.Author.Needs.{needs}
+use Rattle.reading.specs.Bytes.{first, found, holds}
+use Rattle.reading.proofs.Passing.{found-more}
+use Rattle.reading.proofs.block_holds.Statement.{statement}
+use Rattle.reading.proofs.block_holds.Tie as tie
+
+abbrev Inv-loop : tie.InvT-loop
+Inv-loop s p b seen₀ i₀ seen i = (i ≤ 16) × (seen ≡ found (first (holds b s) p i))
+
+abbrev μ-loop : tie.MeasureT-loop
+μ-loop s p b seen₀ i₀ seen i = 16 - i
+
+loop-holds : tie.Need-loop-holds Inv-loop μ-loop
+unfolding found first
+loop-holds c = (omega arith, refl)
+
+loop-again : tie.Need-loop-again Inv-loop μ-loop
+unfolding holds
+loop-again c = (omega arith, rw (c .before .before .loop .inv .1) (sym (found-more (holds (c .before .before .before .args .b) (c .before .before .before .args .s .now)) (c .before .before .before .args .p) (c .before .before .loop .i))))
+
+returns : tie.Need-returns Inv-loop μ-loop
+returns c = let e : c .before .loop .i ≡ 16 = omega (arith, c .before .loop .inv .0, c .loop-test .left) in rw e at (c .before .loop .inv .1)
+
+pub block-holds-spec : {M : Type 1} → statement M
+block-holds-spec =
+    tie.close
+    (tie.spec
+    Inv-loop
+    μ-loop
+    loop-holds
+    (λ c. search needs)
+    (λ c. search needs)
+    (λ c. search needs)
+    (λ c. search needs)
+    loop-again
+    returns)

@@ -1,0 +1,23 @@
+-- What the searches by blocks answer.
+-- Assumes nothing.
+use mathlib.Core.Path.{_≡_}
+use mathlib.Core.Bool.{Bool, true, false, _&&_}
+use mathlib.Core.List.{List}
+use Prim.Native.Nat.{ℕ, _-_, _≤_, _<_}
+use lib.ListN.{length}
+use Rattle.reading.specs.Bytes.{holds}
+
+-- a hyphen stands at p, behind an LF
+unfoldable pub dashed : List ℕ → ℕ → Bool
+dashed s p = holds 45 s p && holds 10 s (p - 1)
+
+-- a search has come from p to q, and no place between them passes the test
+pub record Passed (test : ℕ → Bool) (s : List ℕ) (p q : ℕ) : Type 0 where
+  pub on : p ≤ q
+  pub within : q ≤ length s
+  pub none : (k : ℕ) → p ≤ k → k < q → test k ≡ false
+
+-- q is the first place from p on that passes the test, or the end
+pub record Next (test : ℕ → Bool) (s : List ℕ) (p q : ℕ) : Type 0 where
+  pub passed : Passed test s p q
+  pub passes : q < length s → test q ≡ true
