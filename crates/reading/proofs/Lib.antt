@@ -4,4 +4,5 @@ pub mod Ends
 pub mod Pieces
 pub mod Alike
 pub mod Passing
+pub mod Matching
 mod Cases

@@ -4,8 +4,8 @@ use mathlib.Core.Path.{_≡_}
 use mathlib.Core.Bool.{Bool, true, false, _&&_}
 use mathlib.Core.List.{List}
 use Prim.Native.Nat.{ℕ, _-_, _≤_, _<_}
-use lib.ListN.{length}
-use Rattle.reading.specs.Bytes.{holds}
+use lib.ListN.{length, drop}
+use Rattle.reading.specs.Bytes.{startsWith, holds}
 
 -- a hyphen stands at p, behind an LF
 unfoldable pub dashed : List ℕ → ℕ → Bool
@@ -21,3 +21,9 @@ pub record Passed (test : ℕ → Bool) (s : List ℕ) (p q : ℕ) : Type 0 wher
 pub record Next (test : ℕ → Bool) (s : List ℕ) (p q : ℕ) : Type 0 where
   pub passed : Passed test s p q
   pub passes : q < length s → test q ≡ true
+
+-- the first k bytes of w stand at the front of l, so that what is behind them decides whether all of w does
+pub record Matched (w l : List ℕ) (k : ℕ) : Type 0 where
+  pub within : k ≤ length w
+  pub room : k ≤ length l
+  pub is : startsWith (drop k w) (drop k l) ≡ startsWith w l

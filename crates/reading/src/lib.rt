@@ -5,7 +5,7 @@ ghost use mathlib.Core.Bool.{_&&_};
 ghost use mathlib.Core.List.{[], _∷_};
 ghost use Prim.Native.Nat.{_+_, _<_, _≤_};
 ghost use lib.ListN.{length, take, drop};
-ghost use Rattle.reading.specs.Blocks.{dashed, Passed, Next};
+ghost use Rattle.reading.specs.Blocks.{dashed, Passed, Next, Matched};
 ghost use Rattle.reading.specs.Bytes.{startsWith, same, endsWith, raised, first, firstPlace, found, holds, stands, contains};
 ghost use Rattle.reading.specs.Reading.{clean, dropEnd, dash, mayStand, delimits, reach, aLine};
 
@@ -197,7 +197,7 @@ pub fn delimiter(s: &[u8], b: &[u8]) -> Place
             break 'places Place::Nowhere;
         }
         if opens(s, p) {
-            let mut k = 0;
+            let mut k = matched(s, p + 2, b);
             loop {
                 if b.len() <= k {
                     break 'places Place::At(p);
@@ -213,6 +213,37 @@ pub fn delimiter(s: &[u8], b: &[u8]) -> Place
         }
         p = next_dash(s, p + 1);
     }
+}
+
+// How many bytes of b stand at a place, by whole blocks.
+fn matched(s: &[u8], at: usize, b: &[u8]) -> usize
+    requires { ⌜ at ≤ length (now s) ⌝ }
+    ensures { λ r. ⌜ Matched (now (b .entry)) (drop at (now (s .entry))) r ⌝ }
+{
+    let mut k = 0;
+    while BLOCK <= b.len() - k {
+        if s.len() - at - k < BLOCK {
+            return k;
+        }
+        if !block_equals(s, at + k, b, k) {
+            return k;
+        }
+        k += BLOCK;
+    }
+    k
+}
+
+fn block_equals(s: &[u8], p: usize, b: &[u8], k: usize) -> bool
+    requires { ⌜ (p + 16 ≤ length (now s)) × (k + 16 ≤ length (now b)) ⌝ }
+    ensures { λ r. ⌜ r ≡ startsWith (take 16 (drop k (now (b .entry)))) (drop p (now (s .entry))) ⌝ }
+{
+    let mut same = true;
+    let mut i = 0;
+    while i < BLOCK {
+        same = same & (s[p + i] == b[k + i]);
+        i += 1;
+    }
+    same
 }
 
 // From p on, the first place that holds a hyphen behind an LF, or the end.

@@ -1,5 +1,6 @@
 -- `reading::delimiter` meets its contract: a search over places, and in it a comparison with the boundary that has come to k. Assumes nothing.
 use mathlib.Core.Path.{sym, _∙_}
+use mathlib.Core.List.{[]}
 use mathlib.Core.Logic.{⊎-elim}
 use Prim.Native.Nat.{_-_}
 use native.Mathlib.Omega.{arith}
@@ -7,6 +8,7 @@ use lib.ListN.{length}
 use borrow.Author.Needs.{needs}
 use Rattle.reading.specs.Reading.{delimits}
 use Rattle.reading.proofs.Ends.{Behind, opens-not, behind-none-yet, behind-all, behind-short, behind-differs, behind-on}
+use Rattle.reading.proofs.Matching.{behind-matched}
 use Rattle.reading.proofs.Passing.{sought-passed, dashless-passed}
 use Rattle.reading.proofs.Places.{Sought, sought-none-yet, sought-here, sought-on, sought-in-vain}
 use Rattle.reading.proofs.delimiter.Statement.{statement}
@@ -34,7 +36,9 @@ delimiter-spec =
     μ-places
     (λ c. sought-none-yet _ _)
     (λ c _. search needs)
-    (λ c. behind-none-yet _ _ _ (sym (c .before .opens .ensures) ∙ c .if2 .taken))
+    (λ c. omega (arith, behind-none-yet [] (c .before .before .before .before .before .before .args .s .now) (c .before .before .before .places .p) (sym (c .before .opens .ensures) ∙ c .if2 .taken) .room))
+    (λ c _. behind-none-yet [] (c .before .before .before .before .before .before .args .s .now) (c .before .before .before .places .p) (sym (c .before .opens .ensures) ∙ c .if2 .taken) .room)
+    (λ c. behind-matched (sym (c .before .before .opens .ensures) ∙ c .before .if2 .taken) (c .matched .ensures))
     (λ c. omega (arith, c .before .loop .inv .room))
     (λ c. omega (arith, c .before .loop .inv .room))
     (λ c. omega (arith, c .before .before .loop .inv .room))
@@ -48,8 +52,8 @@ delimiter-spec =
     (λ c _. search needs)
     (λ c. omega (arith, c .next-dash .ensures .passed .on, c .before .before .before .if1 .left))
     (λ c. sought-passed _ (sought-on (c .before .before .before .before .places .inv) (c .before .before .before .if1 .left)
-    (⊎-elim (λ w. behind-short (w .1 .inv) (w .2 .left) (w .3 .taken))
-    (⊎-elim (λ w. behind-differs (w .1 .inv) (w .2 .left) (w .3 .left) (w .6 .taken)) (λ w. opens-not _ _ _ (sym (c .before .before .opens .ensures) ∙ w .left)))
+    (⊎-elim (λ w. behind-short (w .2 .inv) (w .3 .left) (w .4 .taken))
+    (⊎-elim (λ w. behind-differs (w .2 .inv) (w .3 .left) (w .4 .left) (w .7 .taken)) (λ w. opens-not _ _ _ (sym (c .before .before .opens .ensures) ∙ w .left)))
     (c .before .if2 .came))) (dashless-passed _ _ (omega arith) (c .next-dash .ensures .passed)))
     (λ c. sought-in-vain (c .before .places .inv) (c .if1 .taken))
-    (λ c. sought-here (c .before .before .before .before .before .places .inv) (c .before .before .before .before .if1 .left) (behind-all (c .before .loop .inv) (c .if3 .taken))))
+    (λ c. sought-here (c .before .before .before .before .before .before .places .inv) (c .before .before .before .before .before .if1 .left) (behind-all (c .before .loop .inv) (c .if3 .taken))))
