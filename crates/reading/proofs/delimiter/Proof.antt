@@ -37,7 +37,7 @@ delimiter-spec =
     (λ c. sought-none-yet _ _)
     (λ c _. search needs)
     (λ c. omega (arith, behind-none-yet [] (c .before .before .before .before .before .before .args .s .now) (c .before .before .before .places .p) (sym (c .before .opens .ensures) ∙ c .if2 .taken) .room))
-    (λ c _. behind-none-yet [] (c .before .before .before .before .before .before .args .s .now) (c .before .before .before .places .p) (sym (c .before .opens .ensures) ∙ c .if2 .taken) .room)
+    (λ c _. omega (arith, behind-none-yet [] (c .before .before .before .before .before .before .args .s .now) (c .before .before .before .places .p) (sym (c .before .opens .ensures) ∙ c .if2 .taken) .room))
     (λ c. behind-matched (sym (c .before .before .opens .ensures) ∙ c .before .if2 .taken) (c .matched .ensures))
     (λ c. omega (arith, c .before .loop .inv .room))
     (λ c. omega (arith, c .before .loop .inv .room))
