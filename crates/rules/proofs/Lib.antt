@@ -1,5 +1,5 @@
 pub mod Machines
-pub mod Cases
+pub mod Answers
 pub mod Counting
 pub mod Given
 pub mod Changes
