@@ -1,4 +1,5 @@
 /* How many bytes of stack the library uses: the deepest session runs on a stack filled with a pattern; what of the pattern is gone was used. */
+#define _GNU_SOURCE
 #include "mailindex.h"
 
 #include <pthread.h>

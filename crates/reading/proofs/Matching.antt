@@ -1,18 +1,21 @@
 -- Comparing by blocks.
 -- Assumes nothing.
-use mathlib.Core.Path.{_≡_, refl, sym, _∙_}
-use mathlib.Core.Bool.{true, _&&_, and-true}
+use mathlib.Core.Path.{_≡_, refl, sym, ap, _∙_}
+use mathlib.Core.Bool.{true, false, _&&_, and-true, and-false}
 use mathlib.Core.List.{List, [], _∷_}
 use Prim.Native.Nat.{ℕ, _+_, _-_, _≤_, _<_}
 use native.Mathlib.Numerals.{add-one}
 use native.Mathlib.Omega.{arith}
 use lib.Dec.{eqb}
-use lib.ListN.{length, take, drop, getD, take-append-drop, length-drop}
+use lib.ListN.{length, take, drop, getD, take-append-drop, length-drop, List·getD-append}
 use lib.Seq.{take-suc, drop-drop, drop-cons, getD-drop, length-take-le}
-use Rattle.reading.specs.Blocks.{Matched}
+use borrow.Author.Tests.{eqb-false, eq-eqb, ne-eqb, le-leb, lt-leb}
+use Rattle.reading.specs.Blocks.{lastStands, Matched}
 use Rattle.reading.specs.Bytes.{startsWith}
-use Rattle.reading.proofs.Ends.{Behind, Opens, behind-none-yet}
-use Rattle.reading.proofs.Words.{starts-append}
+use Rattle.reading.specs.Reading.{delimits}
+use Rattle.reading.proofs.Ends.{Behind, Opens, behind-none-yet, delimits-is}
+use Rattle.reading.proofs.Places.{by-test}
+use Rattle.reading.proofs.Words.{starts-append, starts-is, starts-long}
 
 -- one byte more
 one-more : (w l : List ℕ) (j : ℕ) → j < length w → j < length l → startsWith (take (j + 1) w) l ≡ (startsWith (take j w) l && eqb (getD l j 0) (getD w j 0))
@@ -43,3 +46,35 @@ matched-block {w} {l} {k} m h g e =
 
 pub behind-matched : {b s : List ℕ} {p k : ℕ} → Opens s p ≡ true → Matched b (drop (p + 2) s) k → Behind b s p k
 behind-matched {b} {s} {p} o m = record { opens = o; room = behind-none-yet b s p o .room; compared = record { within = m .within; is = m .is } }
+
+-- ---- the last byte
+module _ (s b : List ℕ) (at : ℕ) where
+  pub last-empty : length b ≡ 0 → true ≡ lastStands b (drop at s)
+  unfolding lastStands
+  last-empty h = rw (eq-eqb (length b) 0 h)
+
+  module _ (some : length b ≡ 0 → ⊥) where
+    pub last-short : length s - at < length b → false ≡ lastStands b (drop at s)
+    unfolding lastStands
+    last-short h = rw (ne-eqb (length b) 0 some, lt-leb (length b) (length (drop at s)) (omega (arith, length-drop at s)))
+
+    pub last-compared : length b ≤ length s - at → eqb (getD s (at + (length b - 1)) 0) (getD b (length b - 1) 0) ≡ lastStands b (drop at s)
+    unfolding lastStands
+    last-compared h = rw (ne-eqb (length b) 0 some, le-leb (length b) (length (drop at s)) (omega (arith, length-drop at s)), getD-drop at s (length b - 1) 0)
+
+starts-last : (w l : List ℕ) → startsWith w l ≡ true → lastStands w l ≡ true
+unfolding lastStands
+starts-last w l h =
+    by-test (eqb (length w) 0)
+    (λ t. rw t)
+    (λ f.
+    let n = eqb-false (length w) 0 f in
+    let e : getD l (length w - 1) 0 ≡ getD w (length w - 1) 0 = ap (λ (m : List ℕ). getD m (length w - 1) 0) (starts-is w l h) ∙ List·getD-append w (drop (length w) l) 0 (length w - 1) (omega (arith, n)) in
+    rw (f, le-leb (length w) (length l) (starts-long w l h), eq-eqb (getD l (length w - 1) 0) (getD w (length w - 1) 0) e))
+
+starts-not : (w l : List ℕ) → lastStands w l ≡ false → startsWith w l ≡ false
+starts-not w l f = by-test (startsWith w l) (λ t. absurd (let x = starts-last w l t in let z : _≡_ {A = ℕ} 0 1 = cc in omega arith)) (λ g. g)
+
+-- a boundary whose last byte does not stand there does not stand there
+pub last-not : (b s : List ℕ) (p : ℕ) → lastStands b (drop (p + 2) s) ≡ false → delimits b s p ≡ false
+last-not b s p f = delimits-is b s p ∙ rw (starts-not b (drop (p + 2) s) f, and-false) refl

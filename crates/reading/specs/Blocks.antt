@@ -1,10 +1,11 @@
 -- What the searches by blocks answer.
 -- Assumes nothing.
 use mathlib.Core.Path.{_≡_}
-use mathlib.Core.Bool.{Bool, true, false, _&&_}
+use mathlib.Core.Bool.{Bool, true, false, _&&_, _||_}
 use mathlib.Core.List.{List}
 use Prim.Native.Nat.{ℕ, _-_, _≤_, _<_}
-use lib.ListN.{length, drop}
+use lib.Dec.{eqb, leb}
+use lib.ListN.{length, drop, getD}
 use Rattle.reading.specs.Bytes.{startsWith, holds}
 
 -- a hyphen stands at p, behind an LF
@@ -21,6 +22,10 @@ pub record Passed (test : ℕ → Bool) (s : List ℕ) (p q : ℕ) : Type 0 wher
 pub record Next (test : ℕ → Bool) (s : List ℕ) (p q : ℕ) : Type 0 where
   pub passed : Passed test s p q
   pub passes : q < length s → test q ≡ true
+
+-- w is empty, or its last byte stands where it would if w stood at the front of l
+unfoldable pub lastStands : List ℕ → List ℕ → Bool
+lastStands w l = eqb (length w) 0 || (leb (length w) (length l) && eqb (getD l (length w - 1) 0) (getD w (length w - 1) 0))
 
 -- the first k bytes of w stand at the front of l, so that what is behind them decides whether all of w does
 pub record Matched (w l : List ℕ) (k : ℕ) : Type 0 where

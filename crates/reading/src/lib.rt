@@ -5,7 +5,7 @@ ghost use mathlib.Core.Bool.{_&&_};
 ghost use mathlib.Core.List.{[], _∷_};
 ghost use Prim.Native.Nat.{_+_, _<_, _≤_};
 ghost use lib.ListN.{length, take, drop};
-ghost use Rattle.reading.specs.Blocks.{dashed, Passed, Next, Matched};
+ghost use Rattle.reading.specs.Blocks.{dashed, Passed, Next, lastStands, Matched};
 ghost use Rattle.reading.specs.Bytes.{startsWith, same, endsWith, raised, first, firstPlace, found, holds, stands, contains};
 ghost use Rattle.reading.specs.Reading.{clean, dropEnd, dash, mayStand, delimits, reach, aLine};
 
@@ -197,22 +197,39 @@ pub fn delimiter(s: &[u8], b: &[u8]) -> Place
             break 'places Place::Nowhere;
         }
         if opens(s, p) {
-            let mut k = matched(s, p + 2, b);
-            loop {
-                if b.len() <= k {
-                    break 'places Place::At(p);
+            if last_stands(s, p + 2, b) {
+                let mut k = matched(s, p + 2, b);
+                loop {
+                    if b.len() <= k {
+                        break 'places Place::At(p);
+                    }
+                    if s.len() - p - 2 <= k {
+                        break;
+                    }
+                    if s[p + 2 + k] != b[k] {
+                        break;
+                    }
+                    k += 1;
                 }
-                if s.len() - p - 2 <= k {
-                    break;
-                }
-                if s[p + 2 + k] != b[k] {
-                    break;
-                }
-                k += 1;
             }
         }
         p = next_dash(s, p + 1);
     }
+}
+
+// Whether the last byte of b stands where it would if b stood at a place: one look tells most that only resemble it.
+fn last_stands(s: &[u8], at: usize, b: &[u8]) -> bool
+    requires { ⌜ at ≤ length (now s) ⌝ }
+    ensures { λ r. ⌜ r ≡ lastStands (now (b .entry)) (drop at (now (s .entry))) ⌝ }
+{
+    let n = b.len();
+    if n == 0 {
+        return true;
+    }
+    if s.len() - at < n {
+        return false;
+    }
+    s[at + (n - 1)] == b[n - 1]
 }
 
 // How many bytes of b stand at a place, by whole blocks.
