@@ -25,6 +25,25 @@ ends-one b l n h =
     let e : length l - 1 ≡ n = omega arith in
     rw (e, left-at l n (omega arith), drop-of-length-le l (let g : length l ≤ n + 1 = omega arith in g), and-true)
 
+-- CRLF at the end of the first p bytes
+pub ends-crlf : (s : List ℕ) (p : ℕ) → 2 ≤ p → p ≤ length s → endsWith (13 ∷ 10 ∷ []) (take p s) ≡ (eqb (getD s (p - 2) 0) 13 && eqb (getD s (p - 1) 0) 10)
+unfolding endsWith same startsWith
+ends-crlf s p h g =
+    let n : length (take p s) ≡ p = length-take-le p s g in
+    let one : p - 2 + 1 ≡ p - 1 = omega arith in
+    let all : p - 1 + 1 ≡ p = omega arith in
+    rw (
+      n,
+      left-at (take p s) (p - 2) (omega (arith, n)),
+      one,
+      left-at (take p s) (p - 1) (omega (arith, n)),
+      all,
+      drop-of-length-le (take p s) (let m : length (take p s) ≤ p = omega (arith, n) in m),
+      getD-take p s (p - 2) 0 (omega arith),
+      getD-take p s (p - 1) 0 (omega arith),
+      and-true,
+    )
+
 -- without it, of the first n bytes
 pub drop-end-none : (b : ℕ) (l : List ℕ) (n : ℕ) → n ≡ 0 → 0 ≡ length (dropEnd (b ∷ []) (take n l))
 unfolding dropEnd endsWith same
@@ -121,6 +140,9 @@ may-stand-first s p e = rw e
 pub may-stand-later : (s : List ℕ) (p : ℕ) → (p ≡ 0 → ⊥) → mayStand s p ≡ endsWith (13 ∷ 10 ∷ []) (take p s)
 unfolding mayStand
 may-stand-later s p n = rw (ne-eqb p 0 n)
+
+pub may-stand-second : (s : List ℕ) (p : ℕ) → p < length s → p ≡ 1 → mayStand s p ≡ false
+may-stand-second s p h e = may-stand-later s p (λ z. omega arith) ∙ sym (ends-short (13 ∷ 10 ∷ []) (take p s) (omega (arith, length-take-le p s (let g : p ≤ length s = omega arith in g))))
 
 swap : (a b c : Bool) → (a && (b && c)) ≡ ((b && a) && c)
 swap true b c = ap (λ (x : Bool). x && c) (sym (and-true b))

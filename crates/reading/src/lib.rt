@@ -326,5 +326,8 @@ fn opens(s: &[u8], p: usize) -> bool
     if p == 0 {
         return true;
     }
-    ends_with(&s[..p], b"\r\n")
+    if p == 1 {
+        return false;
+    }
+    (s[p - 2] == b'\r') & (s[p - 1] == b'\n')
 }
