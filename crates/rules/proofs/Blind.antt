@@ -3,12 +3,12 @@
 use mathlib.Core.Path.{_≡_, refl, sym, ap, _∙_}
 use mathlib.Core.Logic.{_⊎_, inl, inr}
 use mathlib.Core.Bool.{Bool, true, false, cond, not, _&&_, _||_}
-use mathlib.Core.List.{List, [], _∷_, _++_}
+use mathlib.Core.List.{List, [], _∷_}
 use mathlib.Core.Option.{Option, none, some}
 use Prim.Native.Nat.{ℕ, zero, suc, _+_, _-_, _≤_, _<_}
 use native.Mathlib.Omega.{arith}
 use lib.Dec.{eqb, leb, ltb}
-use lib.ListN.{length, getD, drop-of-length-le}
+use lib.ListN.{length, getD}
 use lib.Seq.{ext-getD}
 use borrow.Author.Tests.{eqb-true, not-true}
 use Rattle.events.specs.Events.{ev, bodyLine, sizedBody, partBody, user, password}
@@ -26,7 +26,7 @@ use Rattle.fields.specs.declared.smtp.Second.the-variants as is
 use Rattle.reading.proofs.Alike.{line-alike, bytes-alike, clean-alike}
 use Rattle.reading.proofs.Ends.{clean-within}
 use Rattle.reading.proofs.Places.{by-test}
-use Rattle.reading.proofs.Words.{both-true, starts-is}
+use Rattle.reading.proofs.Words.{both-true, same-is}
 use Rattle.reading.specs.Bytes.{startsWith, same}
 use Rattle.reading.specs.Text.{text}
 use Rattle.reading.specs.Reading.{aLine, bytes, got, fetch, reach, parted, clean, crlf}
@@ -176,13 +176,6 @@ line-blind ph k n at e p a z h g es same =
     }
 
 -- a dot line has no fresh byte, so that it was one before
-dot-line : (q : List ℕ) → same dotLine q ≡ true → q ≡ dotLine
-unfolding same
-dot-line q h =
-    let b = both-true (eqb (length q) 3) (startsWith dotLine q) h in
-    let n : length q ≡ 3 = eqb-true (length q) 3 (b .0) in
-    starts-is dotLine q (b .1) ∙ ap (λ (r : List ℕ). dotLine ++ r) (drop-of-length-le q (let m : length q ≤ 3 = omega arith in m))
-
 not-fresh : (i : ℕ) → i < 3 → fresh (getD dotLine i 0) ≡ false
 unfolding fresh unbroken
 not-fresh zero h = refl
@@ -201,7 +194,7 @@ dot-kept : {p q : List ℕ} → Kept p q → same dotLine p ≡ false → same d
 unfolding same startsWith
 dot-kept {p} {q} w f =
     by-test (same dotLine q)
-    (λ t. absurd (apart (sym (ap (same dotLine) (was-dot w (dot-line q t))) ∙ f)))
+    (λ t. absurd (apart (sym (ap (same dotLine) (was-dot w (same-is dotLine q t))) ∙ f)))
     (λ g. g)
 
 text-blind : (m : Mail) (e : Encoding) (at : ℕ) (p : List ℕ) → fetch aLine p ≡ got p [] → Blind (reads (Phases.text m e)) at p
