@@ -1,7 +1,7 @@
 -- The table, run: two events into tables of every size up to two slots and a bit; what lies behind stays.
 -- Assumes nothing.
 use mathlib.Core.Path.{_≡_, refl}
-use mathlib.Core.List.{List, [], _∷_}
+use mathlib.Core.List.{[], _∷_}
 use Prim.Native.Nat.{ℕ}
 use lib.ListN.{replicate}
 use Rattle.events.specs.Events.{ev, bodyStart, bodyLine}

@@ -1,12 +1,12 @@
 -- Header lines and SMTP lines: the definitions, run.
 -- Assumes nothing.
 use mathlib.Core.Path.{_≡_, refl}
-use mathlib.Core.Bool.{Bool, true, false}
+use mathlib.Core.Bool.{true, false}
 use mathlib.Core.List.{List, [], _∷_}
-use mathlib.Core.Option.{Option, none, some}
+use mathlib.Core.Option.{none, some}
 use Prim.Native.Nat.{ℕ}
 use Rattle.classes.specs.Classes.{upperOf, isLetter, isUpper}
-use Rattle.events.specs.declared.Encoding.the-variants.{Unsaid, Bit7, Bit8, Binary, QuotedPrintable, Base64}
+use Rattle.events.specs.declared.Encoding.the-variants.{Unsaid, Bit7, Bit8, QuotedPrintable, Base64}
 use Rattle.reading.specs.Text.{text}
 use Rattle.reading.specs.Bytes.{startsWith, same, endsWith, raised, first, firstPlace, holds, stands}
 use Rattle.fields.specs.Runs.{runs, lead}

@@ -1,7 +1,7 @@
 -- Document 01's cases of boundary q, and lines: the definitions, run.
 -- Assumes nothing.
 use mathlib.Core.Path.{_≡_, refl}
-use mathlib.Core.Bool.{Bool, true, false}
+use mathlib.Core.Bool.{true, false}
 use mathlib.Core.List.{[], _∷_}
 use Rattle.classes.specs.Classes.{upperOf, isLetter, isUpper}
 use Rattle.reading.specs.Text.{text}

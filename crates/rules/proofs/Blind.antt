@@ -31,7 +31,7 @@ use Rattle.reading.specs.Bytes.{startsWith, same}
 use Rattle.reading.specs.Text.{text}
 use Rattle.reading.specs.Reading.{aLine, bytes, got, fetch, reach, parted, clean, crlf}
 use Rattle.rules.specs.Imap.{onCommand, onOffered, onClosing}
-use Rattle.rules.specs.Machine.{Reaction, before}
+use Rattle.rules.specs.Machine.{Reaction}
 use Rattle.rules.specs.Mail.{dotLine, hyphens, levels, rest, literalBody, plainMail, plain, begun, onHead, onText, onLiteral, onPreamble, onOpened, held, whole, contentLength, onContent, skip, onBetween, onSkipping, onResting}
 use Rattle.rules.specs.Phases.{Phase, State, reads, ends, wants, need, then, stop}
 use Rattle.rules.specs.Phases

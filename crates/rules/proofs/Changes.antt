@@ -12,11 +12,9 @@ use lib.Seq.{getD-take, getD-drop, getD-append-add, length-take-le, ext-getD}
 use borrow.Author.Tests.{eqb-true, not-true, lt-leb, le-ltb}
 use Rattle.events.specs.Events.{bodyLine, sizedBody, user, password}
 use Rattle.events.specs.declared.Event.{Event}
-use Rattle.fields.specs.declared.smtp.Second.the-variants as is
 use Rattle.reading.proofs.Places.{by-test}
 use Rattle.reading.proofs.Words.{both-true}
 use Rattle.reading.specs.Reading.{bytes}
-use Rattle.rules.specs.Phases
 use Rattle.rules.specs.Secrecy.{inside, mayTurn, may, Replaced}
 
 -- ---- tests

@@ -1,7 +1,7 @@
 -- Demand 3, proved: bytes replaced where document 01 permits it change no answer, nor that of any beginning.
 -- Assumes nothing.
 use mathlib.Core.Path.{_≡_, refl, sym, ap, _∙_}
-use mathlib.Core.Bool.{Bool, true, false, not, _&&_, _||_}
+use mathlib.Core.Bool.{Bool, true, false, _&&_, _||_}
 use mathlib.Core.List.{List, [], _∷_, _++_}
 use Prim.Native.Nat.{ℕ, zero, suc, _+_, _-_, _≤_, _<_}
 use native.Mathlib.Omega.{arith}
@@ -9,9 +9,7 @@ use lib.Dec.{eqb, ltb}
 use lib.ListN.{length, take, drop, getD, take-append-drop, length-append, length-take}
 use lib.Seq.{take-length, take-nil}
 use borrow.Author.Tests.{ltb-true, ltb-false}
-use Rattle.events.specs.Events.{user, password}
 use Rattle.events.specs.declared.Event.{Event}
-use Rattle.fields.specs.declared.smtp.Second.the-variants as is
 use Rattle.reading.proofs.Alike.{got-cut}
 use Rattle.reading.proofs.Pieces.{got-splits, got-itself, got-alone}
 use Rattle.reading.proofs.Places.{by-test}
@@ -19,10 +17,8 @@ use Rattle.reading.specs.Bytes.{same}
 use Rattle.reading.specs.Reading.{bytes, Got, got, short, fetch}
 use Rattle.rules.specs.Machine.{Ran, before}
 use Rattle.rules.specs.Phases.{Phase, State, reads, need}
-use Rattle.rules.specs.Phases
 use Rattle.rules.specs.Secrecy.{inside, mayTurn, may, Replaced, eventsIn, eventsOf}
 use Rattle.rules.specs.Sessions.{react, session, resultOf, placeOf, settle, answer, limit}
-use Rattle.rules.specs.Smtp.{given}
 use Rattle.rules.proofs.Given.{poured-given}
 use Rattle.rules.proofs.Machines.{run-short, run-got, got-shorter}
 use Rattle.rules.proofs.Changes.{AllLie, all-lie-append, changed-piece, changed-rest, still, unchanged}

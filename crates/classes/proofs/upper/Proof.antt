@@ -1,6 +1,5 @@
 -- `classes::upper` meets its contract. Assumes nothing.
 use native.Mathlib.Omega.{arith}
-use borrow.Author.Needs.{needs}
 use Rattle.classes.proofs.Laws.{upper-below, upper-above, upper-moved}
 use Rattle.classes.proofs.upper.Statement.{statement}
 use Rattle.classes.proofs.upper.Tie as tie
