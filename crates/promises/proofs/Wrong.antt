@@ -6,6 +6,7 @@ use mathlib.Core.List.{List, [], _∷_, _++_, map}
 use mathlib.Core.Option.{Option, none, some}
 use Prim.Native.Nat.{ℕ, _+_}
 use lib.ListN.{length, replicate}
+use lib.Seq.{paste}
 use Rattle.cases.specs.Cases.{two, four, headOf, mark, sidesOf, guessed, guessOf, pattern, only, sameFrom, sameNumbers}
 use Rattle.cases.specs.declared.Guessed.{Guessed}
 use Rattle.cases.specs.declared.Guessed.the-variants as guesses
@@ -19,7 +20,7 @@ use Rattle.entries.specs.declared.Letter.the-variants as letter
 use Rattle.events.specs.Events.{ev, numbers, resultNumber, encodingNumber, sizedBody}
 use Rattle.events.specs.Table.{Final, final, store, pour, finish, tableOf}
 use Rattle.events.specs.declared.Encoding.the-variants.{Base64}
-use Rattle.events.specs.declared.Outcome.the-variants.{Done, TooDeep}
+use Rattle.events.specs.declared.Outcome.the-variants.{Done, SmallLiteral, TooDeep}
 use Rattle.fields.specs.Common.{encodingNamed, behindSpaces, transferEncoding, closed, quoted, unquoted, typed, named, bareParameter, parameter, contentType, contentTypeExt, firstEncoding, byType, byExt, byBoundary, scanned, unknown, dashBdry}
 use Rattle.fields.specs.Imap.{appendFollows, isAppend, dark, trimmed, braced, fromBrace, sizeOf, appendSize, holdsColon}
 use Rattle.fields.specs.Pop3.{stlsAnswer, octets, octetsFollow, numbered, retrAnswer}
@@ -37,6 +38,7 @@ use Rattle.fields.specs.declared.smtp.Address.the-variants as address
 use Rattle.fields.specs.declared.smtp.Second.{Second}
 use Rattle.fields.specs.declared.smtp.Second.the-variants as line
 use Rattle.listing.specs.Listing.{spelled, word, line as textLine, eventAt, eventLines, listing}
+use Rattle.mailindex.specs.Exports.{numbersOf}
 use Rattle.reading.specs.Bytes.{startsWith, same, endsWith, raised, first, firstPlace, holds, stands, found, contains}
 use Rattle.reading.specs.Reading.{clean, dropEnd, mayStand, delimits, past, reach, parted, fetch, aLine}
 use Rattle.reading.specs.Text.{text}
@@ -181,7 +183,8 @@ leaves =
     (found-at (mailFrom (text "MAIL FROM: <b>")) ++ found-at (mailFrom (text "MAIL FROM: <b")) is-neither 12 ∷ 2 ∷ 12 ∷ 1 ∷ [] nor 12 ∷ 1 ∷ []) ∷
     -- rcpt_to: with the >; up to the line's end where it has none
     (found-at (rcptTo (text "RCPT TO: <b>")) ++ found-at (rcptTo (text "RCPT TO: <b")) is-neither 10 ∷ 2 ∷ [] nor 10 ∷ 1 ∷ 10 ∷ 1 ∷ []) ∷
-    -- listing's number, put, append: backwards; without what stands behind
+    -- listing's put: nothing put; at the front. Its number and append: backwards; without what stands behind
+    (paste (7 ∷ 7 ∷ 7 ∷ []) 1 (5 ∷ []) 1 is-neither 7 ∷ 7 ∷ 7 ∷ [] nor 5 ∷ 7 ∷ 7 ∷ []) ∷
     (word 12 10 is-neither 50 ∷ 49 ∷ 10 ∷ [] nor 49 ∷ 50 ∷ []) ∷
     (listing (final [] Done 1 0) is-neither text "0 0 1\n" nor text "0 1\n") ∷
     -- cases' number, head_of, guess, fill: the greatest first; one number too few
@@ -189,6 +192,8 @@ leaves =
     (headOf (83 ∷ 1 ∷ 0 ∷ 0 ∷ 0 ∷ 2 ∷ 0 ∷ 0 ∷ 0 ∷ []) .slots ∷ headOf (83 ∷ 1 ∷ 0 ∷ 0 ∷ 0 ∷ 2 ∷ 0 ∷ 0 ∷ 0 ∷ []) .length ∷ [] is-neither 2 ∷ 1 ∷ [] nor 2 ∷ 2 ∷ []) ∷
     (guessNo (guessOf (9 ∷ [])) ++ guessNo (guessOf (9 ∷ 0 ∷ 0 ∷ 0 ∷ 0 ∷ 0 ∷ 0 ∷ 0 ∷ 0 ∷ 0 ∷ 0 ∷ 0 ∷ 0 ∷ [])) is-neither [] nor 0 ∷ 3 ∷ []) ∷
     (replicate 2 pattern is-neither pattern ∷ [] nor 0 ∷ 0 ∷ []) ∷
+    -- the C library's entries: place and count changed over; no result
+    (numbersOf (record { result = SmallLiteral; place = 25; count = 3 }) is-neither 7 ∷ 3 ∷ 25 ∷ [] nor 0 ∷ 25 ∷ 3 ∷ []) ∷
     -- entry_of: the server for the client; none
     (entered (entryOf 83) is-neither 1 ∷ [] nor 4 ∷ []) ∷
     []
@@ -202,6 +207,6 @@ dissectors =
     (outcome (imapClient (replicate 4 99) (text "a\nb")) is-neither 0 ∷ 2 ∷ 1 ∷ 7 ∷ 0 ∷ 1 ∷ 0 ∷ [] nor 1 ∷ 2 ∷ 1 ∷ replicate 4 99) ∷
     []
 
-pub wrong-answers : map met (leaves ++ dissectors) ≡ replicate 33 false
+pub wrong-answers : map met (leaves ++ dissectors) ≡ replicate 35 false
 unfolding answer settle resultOf placeOf react reacts need wants runs-on go turn fetch parted reach past first firstPlace holds stands found contains delimits mayStand startsWith same endsWith raised clean dropEnd upperOf isLetter isUpper isWhite isBlank isPopWhite isDigit store pour finish lead runs last lastPlace through worth worthBehind upTo transferEncoding encodingNamed behindSpaces closed quoted unquoted typed named bareParameter parameter contentType contentTypeExt firstEncoding byType byExt byBoundary scanned dashBdry startsWithHelo isMailFrom secondLine isData upToEnd closingAt mailFrom required rcptTo stlsAnswer octets octetsFollow numbered retrAnswer appendFollows isAppend dark trimmed braced fromBrace sizeOf appendSize holdsColon onHello given bySecond onSecond onRecipient byRecipient onReply onStatus onCommand onOffered guess confirm spelled word textLine eventAt eventLines listing four two headOf sidesOf mark guessed guessOf entryOf
 wrong-answers = refl
