@@ -1,9 +1,9 @@
 -- `replay::agrees` meets its contract, comparison by comparison. Assumes nothing.
-use mathlib.Core.Path.{sym, ap, _∙_}
+use mathlib.Core.Path.{_≡_, sym, ap, _∙_}
 use lib.Seq.{length-take-le}
 use borrow.Author.Needs.{needs}
 use borrow.Author.Tests.{eq-eqb, ne-eqb, not-true, not-false}
-use Rattle.cases.specs.Cases.{pattern, only}
+use Rattle.cases.specs.Cases.{four, pattern, only}
 use Rattle.reading.proofs.Words.{rest-is}
 use Rattle.replay.specs.Replay.{agree}
 use Rattle.replay.proofs.agrees.Statement.{statement}
@@ -15,7 +15,9 @@ returns c = rw (← c .before .before .number .ensures, ← c .before .number2 .
 
 returns-2 : tie.Need-returns-2
 unfolding agree
-returns-2 c = rw (← c .before .before .before .before .number .ensures, ← c .before .before .before .number2 .ensures, eq-eqb _ _ (c .before .before .if1 .left), ← c .before .number3 .ensures, ne-eqb _ _ (c .if2 .taken))
+returns-2 c =
+    let place : c .before .number3 .result ≡ four (c .before .before .before .before .before .before .before .before .args .stored .now) 4 = c .before .number3 .ensures in
+    rw (← c .before .before .before .before .number .ensures, ← c .before .before .before .number2 .ensures, eq-eqb _ _ (c .before .before .if1 .left), ← place, ne-eqb _ _ (c .if2 .taken))
 
 returns-3 : tie.Need-returns-3
 unfolding agree
