@@ -10,31 +10,32 @@ use borrow.Author.Tests.{lt-ltb, le-ltb, eq-eqb, ne-eqb}
 use Rattle.cases.specs.Cases.{headOf, guessOf, pattern, only}
 use Rattle.cases.specs.declared.Guessed.the-variants.{Number, Broken}
 use Rattle.cases.specs.declared.Head.{Head}
-use Rattle.entries.specs.Entries.{entryOf, answerOf}
-use Rattle.entries.specs.declared.Entry.{Entry}
-use Rattle.entries.specs.declared.Letter.the-variants.{Of, Other}
+use Rattle.letters.specs.Letters.{entryOf}
+use Rattle.rules.specs.Sessions.{answerOf}
+use Rattle.rules.specs.declared.Entry.{Entry}
+use Rattle.letters.specs.declared.Letter.the-variants.{Of, Other}
 use Rattle.events.specs.Table.{Final}
 use Rattle.listing.proofs.Lines.{listing-length}
-use Rattle.listing.proofs.Puts.{puts-length, puts-none}
+use Rattle.listing.proofs.Pasted.{pasted-length, pasted-none}
 use Rattle.listing.proofs.Spelled.{word-length}
-use Rattle.listing.specs.Listing.{Puts, word, listing}
+use Rattle.listing.specs.Listing.{Pasted, word, listing}
 use Rattle.reading.specs.Text.{text}
 use Rattle.batch.specs.Batch.{Said, case, last, size, Shows, ShowsOne, guessSaid, listed, lentSize, sessionSaid, saidOf, OfRecord, OfInput, behind}
 use Rattle.batch.specs.declared.Text.{Text}
 use Rattle.batch.specs.declared.Text.the-variants.{Case, Last}
 
-module _ {o t u : List ℕ} {r : ℕ} (p : Puts o 0 t r u) (h : length t ≤ length o) where
+module _ {o t u : List ℕ} {r : ℕ} (p : Pasted o 0 t r u) (h : length t ≤ length o) where
   long : r ≡ length t
   long = omega (arith, p .end)
 
   pub case-shown : Shows o (case t) (Case r) u
-  case-shown = record { is = ap Case long; puts = p; fits = omega (arith, long, puts-length p (omega arith)) }
+  case-shown = record { is = ap Case long; puts = p; fits = omega (arith, long, pasted-length p (omega arith)) }
 
   pub last-shown : Shows o (last t) (Last r) u
-  last-shown = record { is = ap Last long; puts = p; fits = omega (arith, long, puts-length p (omega arith)) }
+  last-shown = record { is = ap Last long; puts = p; fits = omega (arith, long, pasted-length p (omega arith)) }
 
 pub none-shown : (o : List ℕ) → Shows o (last []) (Last 0) o
-none-shown o = last-shown (puts-none o 0) (omega arith)
+none-shown o = last-shown (pasted-none o 0) (omega arith)
 
 pub sized : {can : Said → Type 0} {o u : List ℕ} {x y : Text} → ShowsOne can o x u → x ≡ y → size y ≤ length u
 sized w e = rw e at (w .shows .fits)
@@ -50,7 +51,7 @@ module _ {o u : List ℕ} (f : Final) where
     unfolding listed
     touched-listed e w = rw (le-ltb _ _ h, e) w
 
-    pub case-listed : {r : ℕ} → only pattern (drop (4 * f .count) (f .table)) ≡ true → 64 ≤ length o → Puts o 0 (listing f) r u → Shows o (listed (length o) f) (Case r) u
+    pub case-listed : {r : ℕ} → only pattern (drop (4 * f .count) (f .table)) ≡ true → 64 ≤ length o → Pasted o 0 (listing f) r u → Shows o (listed (length o) f) (Case r) u
     unfolding listed
     case-listed e room p = rw (le-ltb _ _ h, e) (case-shown p (omega (arith, listing-length f)))
 
@@ -61,7 +62,7 @@ module _ {o u : List ℕ} (letter slots numbers : ℕ) (s : List ℕ) where
     unfolding saidOf guessSaid
     broken-guess e w = rw (eq-eqb _ _ d, e) w
 
-    pub number-guess : {n r : ℕ} → guessOf s ≡ Number n → 64 ≤ length o → Puts o 0 (word n 10) r u → Shows o (saidOf letter slots numbers (length o) s) (Case r) u
+    pub number-guess : {n r : ℕ} → guessOf s ≡ Number n → 64 ≤ length o → Pasted o 0 (word n 10) r u → Shows o (saidOf letter slots numbers (length o) s) (Case r) u
     unfolding saidOf guessSaid
     number-guess {n} e room p = rw (eq-eqb _ _ d, e) (case-shown p (omega (arith, word-length n 10)))
 

@@ -10,11 +10,12 @@ use Rattle.cases.specs.Cases.{headOf, guessOf, pattern, only}
 use Rattle.cases.specs.declared.Guessed.{Guessed}
 use Rattle.cases.specs.declared.Guessed.the-variants.{Number, Broken}
 use Rattle.cases.specs.declared.Head.{Head}
-use Rattle.entries.specs.Entries.{entryOf, answerOf}
-use Rattle.entries.specs.declared.Letter.{Letter}
-use Rattle.entries.specs.declared.Letter.the-variants.{Of, Other}
+use Rattle.letters.specs.Letters.{entryOf}
+use Rattle.rules.specs.Sessions.{answerOf}
+use Rattle.letters.specs.declared.Letter.{Letter}
+use Rattle.letters.specs.declared.Letter.the-variants.{Of, Other}
 use Rattle.events.specs.Table.{Final}
-use Rattle.listing.specs.Listing.{Puts, word, listing}
+use Rattle.listing.specs.Listing.{Pasted, word, listing}
 use Rattle.reading.specs.Text.{text}
 use Rattle.batch.specs.declared.Text.{Text}
 use Rattle.batch.specs.declared.Text.the-variants.{Case, Last}
@@ -91,7 +92,7 @@ size (Last n) = n
 -- o has become u, at whose front the bytes stand, and r says how many they are
 pub record Shows (o : List ℕ) (x : Said) (r : Text) (u : List ℕ) : Type 0 where
   pub is : r ≡ textOf x
-  pub puts : Puts o 0 (bytesOf x) (size r) u
+  pub puts : Pasted o 0 (bytesOf x) (size r) u
   pub fits : size r ≤ length u
 
 -- it shows one of the texts that can be

@@ -7,9 +7,9 @@ ghost use Rattle.events.specs.Table.{final};
 ghost use Rattle.batch.specs.Batch.{Shows, ShowsOne, OfInput, OfRecord, last, listed, saidOf};
 use cases::Guessed;
 use cases::Head;
-use entries::Letter;
 use events::Answer;
 use input::Input;
+use letters::Letter;
 use libc::STDIN_FILENO;
 use libc::STDOUT_FILENO;
 
@@ -107,10 +107,10 @@ fn case(letter: u8, slots: usize, bytes: &[u8], table: &mut [u32], out: &mut [u8
     if letter == b'D' {
         return match cases::guess(bytes) {
             Guessed::Broken => last(out, b"broken\n"),
-            Guessed::Number(n) => Text::Case(listing::number(out, 0, n as u64, b'\n')),
+            Guessed::Number(n) => Text::Case(listing::word(out, 0, n as u64, b'\n')),
         };
     }
-    match entries::entry_of(letter) {
+    match letters::entry_of(letter) {
         Letter::Other => last(out, b"broken\n"),
         Letter::Of(entry) => {
             // A table whose length is no multiple of four has as many slots as one without its last numbers.
@@ -123,7 +123,7 @@ fn case(letter: u8, slots: usize, bytes: &[u8], table: &mut [u32], out: &mut [u8
             }
             let t = &mut table[..lent];
             cases::fill(t);
-            let a = entries::dissect(entry, bytes, t);
+            let a = sessions::dissect(entry, bytes, t);
             list(t, a, out)
         }
     }

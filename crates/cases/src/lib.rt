@@ -45,8 +45,8 @@ pub fn head_of(b: &[u8]) -> Head
     requires { ⌜ 9 ≤ length (now b) ⌝ }
     ensures { λ r. ⌜ r ≡ headOf (now (b .entry)) ⌝ }
 {
-    let slots = number(b, 1);
-    let length = number(b, 5) as usize;
+    let slots = four(b, 1);
+    let length = four(b, 5) as usize;
     if slots == A_SLOT_PER_BYTE {
         return Head {
             letter: b[0],
@@ -69,7 +69,7 @@ pub fn guess(b: &[u8]) -> Guessed
         Parted::Broken => Guessed::Broken,
         Parted::Into(s) => {
             let server = s.server;
-            Guessed::Number(direction::number(direction::dir_confirm(
+            Guessed::Number(direction::guess_number(direction::dir_confirm(
                 s.protocol,
                 s.client_port,
                 s.server_port,
@@ -88,14 +88,14 @@ fn sides_of(b: &[u8]) -> Parted
     if b.len() < CLIENT {
         return Parted::Broken;
     }
-    let length = number(b, 9) as usize;
+    let length = four(b, 9) as usize;
     if b.len() - CLIENT < length {
         return Parted::Broken;
     }
     Parted::Into(Sides {
-        protocol: number(b, 0),
-        client_port: port(b, 4),
-        server_port: port(b, 6),
+        protocol: four(b, 0),
+        client_port: two(b, 4),
+        server_port: two(b, 6),
         client_held: b[8] % 2 != 0,
         server_held: b[8] / 2 % 2 != 0,
         server: CLIENT + length,
@@ -103,15 +103,15 @@ fn sides_of(b: &[u8]) -> Parted
 }
 
 // Four bytes as a number, the least first.
-pub fn number(b: &[u8], at: usize) -> u32
+pub fn four(b: &[u8], at: usize) -> u32
     requires { ⌜ at + 4 ≤ length (now b) ⌝ }
     ensures { λ r. ⌜ r ≡ four (now (b .entry)) at ⌝ }
 {
-    port(b, at) + 65_536 * port(b, at + 2)
+    two(b, at) + 65_536 * two(b, at + 2)
 }
 
 // Two bytes as a number, the least first.
-fn port(b: &[u8], at: usize) -> u32
+fn two(b: &[u8], at: usize) -> u32
     requires { ⌜ at + 2 ≤ length (now b) ⌝ }
     ensures { λ r. ⌜ (r ≡ two (now (b .entry)) at) × (r < 65536) ⌝ }
 {
@@ -158,7 +158,7 @@ pub fn same_numbers(t: &[u32], b: &[u8]) -> bool
     }
     let mut i = 0;
     while i < t.len() {
-        if t[i] != number(b, 4 * i) {
+        if t[i] != four(b, 4 * i) {
             return false;
         }
         i += 1;

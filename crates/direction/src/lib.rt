@@ -28,7 +28,7 @@ const POP3_PORT: u32 = 110;
 const IMAP_PORT: u32 = 143;
 
 // Document 01's number of an answer.
-pub fn number(g: Guess) -> u32
+pub fn guess_number(g: Guess) -> u32
     ensures { λ n. ⌜ n ≡ guessNumber g ⌝ }
 {
     match g {

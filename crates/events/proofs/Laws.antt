@@ -3,14 +3,14 @@
 use mathlib.Core.Path.{_≡_, refl, sym, ap, _∙_}
 use mathlib.Core.Bool.{Bool, true, false, cond}
 use mathlib.Core.List.{List, [], _∷_, _++_}
-use Prim.Native.Nat.{ℕ, suc, _+_, _*_, _≤_, _<_}
+use Prim.Native.Nat.{ℕ, suc, _+_, _*_, _/_, _≤_, _<_}
 use native.Mathlib.Nat.{le-refl, add-zero, zero-add}
 use native.Mathlib.Numerals.{add-one, add-two, add-three}
 use native.Mathlib.Omega.{arith}
 use lib.Dec.{ltb}
 use lib.ListN.{length, take, drop, set}
 use lib.Seq.{length-sets, take-set-le, drop-set-lt}
-use borrow.Author.Tests.{lt-ltb, le-ltb}
+use borrow.Author.Tests.{lt-ltb, le-ltb, ltb-true}
 use Rattle.events.specs.Events.{width, numbers}
 use Rattle.events.specs.Table.{slots, store, Poured, all, full, pour, Final, final, finish, Puts}
 use Rattle.events.specs.declared.Event.{Event}
@@ -116,3 +116,17 @@ unfolding pour finish
 pour-count [] t n r p = omega arith
 pour-count (e ∷ es) t n r p =
     pour-count-if (ltb n (slots t)) (pour es (store t n e) (n + 1)) t _ n (n + suc (length es)) r p (omega arith) (omega (arith, pour-count es (store t n e) (n + 1) r p))
+
+-- ---- every event that is counted has a slot
+pour-room-if : (t : List ℕ) (n : ℕ) (r : Outcome) (p q : ℕ) (a : Poured) (b : Bool) → ltb n (slots t) ≡ b → n ≤ slots t
+    → (n + 1 ≤ slots t → finish a r p .count ≤ slots t) → finish (cond b a (full t q n)) r p .count ≤ slots t
+unfolding finish
+pour-room-if t n r p q a true l h g = g (omega (arith, ltb-true n (slots t) l))
+pour-room-if t n r p q a false l h g = h
+
+pub pour-room : (es : List Event) (t : List ℕ) (n : ℕ) (r : Outcome) (p : ℕ) → n ≤ slots t → finish (pour es t n) r p .count ≤ slots t
+unfolding pour finish
+pour-room [] t n r p h = h
+pour-room (e ∷ es) t n r p h =
+    pour-room-if t n r p _ (pour es (store t n e) (n + 1)) (ltb n (slots t)) refl h
+    (λ k. let s : slots (store t n e) ≡ slots t = ap (λ (m : ℕ). m / width) (store-length t n e) in rw s at (pour-room es (store t n e) (n + 1) r p (rw s k)))

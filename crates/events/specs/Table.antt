@@ -5,9 +5,10 @@ use mathlib.Core.Bool.{cond}
 use mathlib.Core.List.{List, [], _∷_}
 use Prim.Native.Nat.{ℕ, _+_, _*_, _/_}
 use lib.Dec.{ltb}
-use lib.ListN.{length}
+use lib.ListN.{length, getD}
 use lib.Seq.{sets}
 use Rattle.events.specs.Events.{width, numbers}
+use Rattle.events.specs.declared.Answer.{Answer}
 use Rattle.events.specs.declared.Event.{Event}
 use Rattle.events.specs.declared.Listed.{Listed}
 use Rattle.events.specs.declared.Listed.the-variants.{Written, Full}
@@ -22,6 +23,16 @@ slots t = length t / width
 -- the table with an event's numbers in slot n
 unfoldable pub store : List ℕ → ℕ → Event → List ℕ
 store t n e = sets t (n * width) (numbers e)
+
+-- the event whose numbers stand in slot n
+unfoldable pub eventAt : List ℕ → ℕ → Event
+eventAt t n =
+    record {
+      kind = getD t (n * width) 0;
+      offset = getD t (n * width + 1) 0;
+      length = getD t (n * width + 2) 0;
+      encoding = getD t (n * width + 3) 0;
+    }
 
 -- what has become of events and a table: all n events of the session so far are written; or n are, and the next, due at a place, found no slot
 pub data Poured : Type 0 where
@@ -42,6 +53,10 @@ pub record Final : Type 0 where
 
 abbrev pub final : List ℕ → Outcome → ℕ → ℕ → Final
 final t r p n = record { table = t; result = r; place = p; count = n }
+
+-- an answer and the table then
+abbrev pub finalOf : List ℕ → Answer → Final
+finalOf t a = final t (a .result) (a .place) (a .count)
 
 -- the result and place given, unless an event found no slot: then refusal 10 at that event's offset
 unfoldable pub finish : Poured → Outcome → ℕ → Final

@@ -122,7 +122,7 @@ pub fn put(table: &mut [u32], log: Log, e: Event) -> Listed
 }
 
 // Document 01's number of a result.
-pub fn number(r: Outcome) -> u32
+pub fn result_number(r: Outcome) -> u32
     ensures { λ n. ⌜ n ≡ resultNumber r ⌝ }
 {
     match r {

@@ -6,11 +6,9 @@ use mathlib.Core.List.{List}
 use Prim.Native.Nat.{ℕ, zero, suc, _-_, _≤_, _<_}
 use native.Mathlib.Omega.{arith}
 use lib.ListN.{length}
-use lib.Seq.{length-take-le}
 use Rattle.reading.proofs.Places.{at-same}
 use Rattle.reading.specs.declared.Place.{Place}
 use Rattle.reading.specs.declared.Place.the-variants.{At, Nowhere}
-use Rattle.fields.specs.Imap.{dark, trimmed}
 use Rattle.fields.specs.Runs.{last, lastPlace, through}
 
 -- ---- a search that has come down to n: the last of the first n places is the last place
@@ -75,10 +73,3 @@ through-below n Nowhere h = omega arith
 
 pub through-within : (test : ℕ → Bool) (l : List ℕ) → through (lastPlace test l) ≤ length l
 through-within test l = through-below (length l) (lastPlace test l) (last-inside test l)
-
-pub trimmed-length : (l : List ℕ) → length (trimmed l) ≡ through (lastPlace (dark l) l)
-unfolding trimmed
-trimmed-length l = length-take-le (through (lastPlace (dark l) l)) l (through-within (dark l) l)
-
-pub trimmed-within : (l : List ℕ) → length (trimmed l) ≤ length l
-trimmed-within l = omega (arith, trimmed-length l, through-within (dark l) l)

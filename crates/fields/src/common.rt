@@ -3,11 +3,25 @@ ghost use mathlib.Core.Path.{_≡_};
 ghost use Prim.Native.Nat.{_≤_};
 ghost use mathlib.Core.Option.{none};
 ghost use lib.ListN.{length};
-ghost use Rattle.fields.specs.Common.{transferEncoding, encodingNamed, contentType, bareParameter, named, bareName, typed, contentTypeExt, quoted, unquoted, dashBdry, firstEncoding, byType, byBoundary, scanned, knownOf, part, Says, Inside};
+ghost use Rattle.fields.specs.Common.{transferEncoding, encodingNamed, contentType, bareParameter, named, typeField, bareName, typed, contentTypeExt, quoted, unquoted};
+ghost use Rattle.fields.specs.Common.{dashBdry, firstEncoding, byType, byBoundary, scanned, knownOf, part, Says, Inside};
 use crate::runs::Run;
 use crate::runs::leading;
 use events::Encoding;
 use reading::Place;
+
+// The lengths of `Content-Transfer-Encoding:`, of `Content-Type: `, of `boundary=` and `boundary="`, and of these two behind a tab.
+const ENCODING_FIELD: usize = 26;
+
+const TYPE_FIELD: usize = 14;
+
+const BARE_NAME: usize = 9;
+
+const QUOTED_NAME: usize = 10;
+
+const FOLDED_BARE: usize = 1 + BARE_NAME;
+
+const FOLDED_QUOTED: usize = 1 + QUOTED_NAME;
 
 // A boundary: its place in the part, and its length.
 pub enum Bdry {
@@ -109,7 +123,7 @@ pub fn transfer_encoding(l: &[u8]) -> Encoding
     if !reading::starts_with_any_case(l, b"Content-Transfer-Encoding:") {
         return Encoding::Unsaid;
     }
-    let name = 26 + leading(&l[26..], Run::Spaces);
+    let name = ENCODING_FIELD + leading(&l[ENCODING_FIELD..], Run::Spaces);
     encoding_named(&l[name..])
 }
 
@@ -141,19 +155,19 @@ pub fn content_type(l: &[u8]) -> ContentType
     if !reading::starts_with(l, b"Content-Type: ") {
         return ContentType::Other;
     }
-    match reading::find(&l[14..], b"boundary=\"") {
-        Place::At(p) => as_type(quoted(l, 14 + p + 10)),
+    match reading::find(&l[TYPE_FIELD..], b"boundary=\"") {
+        Place::At(p) => as_type(quoted(l, TYPE_FIELD + p + QUOTED_NAME)),
         Place::Nowhere => bare_parameter(l),
     }
 }
 
 // The first `boundary=` behind the field's name.
 fn bare_parameter(l: &[u8]) -> ContentType
-    requires { ⌜ 14 ≤ length (now l) ⌝ }
+    requires { ⌜ length typeField ≤ length (now l) ⌝ }
     ensures { λ r. ⌜ r ≡ bareParameter (now (l .entry)) (named bareName (now (l .entry))) ⌝ }
 {
-    match reading::find(&l[14..], b"boundary=") {
-        Place::At(p) => as_type(unquoted(l, 14 + p + 9)),
+    match reading::find(&l[TYPE_FIELD..], b"boundary=") {
+        Place::At(p) => as_type(unquoted(l, TYPE_FIELD + p + BARE_NAME)),
         Place::Nowhere => ContentType::Plain,
     }
 }
@@ -171,10 +185,10 @@ pub fn content_type_ext(l: &[u8]) -> Bdry
     ensures { λ r. ⌜ r ≡ contentTypeExt (now (l .entry)) ⌝ }
 {
     if reading::starts_with(l, b"\tboundary=\"") {
-        return quoted(l, 11);
+        return quoted(l, FOLDED_QUOTED);
     }
     if reading::starts_with(l, b"\tboundary=") {
-        return unquoted(l, 10);
+        return unquoted(l, FOLDED_BARE);
     }
     Bdry::Unsupplied
 }

@@ -3,6 +3,11 @@ ghost use mathlib.Core.Path.{_≡_};
 ghost use Rattle.fields.specs.Smtp.{startsWithHelo, secondLine, isMailFrom, isData, mailFrom, rcptTo};
 use reading::Place;
 
+// The lengths of `MAIL FROM: <` and `RCPT TO: <`.
+const FROM_FIELD: usize = 12;
+
+const TO_FIELD: usize = 10;
+
 // What the second line is.
 pub enum Second {
     StartTls,
@@ -59,9 +64,9 @@ pub fn mail_from(l: &[u8]) -> Address
     if !reading::starts_with(l, b"MAIL FROM: <") {
         return Address::Missing;
     }
-    match reading::find_byte(&l[12..], b'>') {
-        Place::At(n) => Address::Given(12, n),
-        Place::Nowhere => Address::Given(12, l.len() - 12),
+    match reading::find_byte(&l[FROM_FIELD..], b'>') {
+        Place::At(n) => Address::Given(FROM_FIELD, n),
+        Place::Nowhere => Address::Given(FROM_FIELD, l.len() - FROM_FIELD),
     }
 }
 
@@ -71,8 +76,8 @@ pub fn rcpt_to(l: &[u8]) -> Address
     if !reading::starts_with(l, b"RCPT TO: <") {
         return Address::Missing;
     }
-    match reading::find_byte(&l[10..], b'>') {
-        Place::At(n) => Address::Given(10, n),
+    match reading::find_byte(&l[TO_FIELD..], b'>') {
+        Place::At(n) => Address::Given(TO_FIELD, n),
         Place::Nowhere => Address::Missing,
     }
 }

@@ -1,3 +1,4 @@
-pub mod Puts
+pub mod Pasted
 pub mod Spelled
 pub mod Lines
+pub mod Wrong

@@ -11,8 +11,8 @@ use lib.Seq.{length-take-le}
 use borrow.Author.Tests.{lt-ltb, le-ltb, ltb-true, ltb-false}
 use Rattle.io.specs.Digits.{glyph, digits, Fewest}
 use Rattle.reading.proofs.Places.{by-test}
-use Rattle.listing.specs.Listing.{Puts, spelled, word}
-use Rattle.listing.proofs.Puts.{puts-length, puts-on, puts-one}
+use Rattle.listing.specs.Listing.{Pasted, spelled, word}
+use Rattle.listing.proofs.Pasted.{pasted-length, pasted-on, pasted-one}
 
 -- a digit below ten
 glyph-is : (d : ℕ) → d < 10 → glyph d ≡ 48 + d
@@ -60,10 +60,10 @@ module _ (o : List ℕ) (at n : ℕ) {k : ℕ} (d : List ℕ) (room : at + 21 �
   pub digits-room : at + length (take k d) < length o
   digits-room = omega (arith, length-take-le k d in-d, few n k small w)
 
-  module _ {u : List ℕ} {r : ℕ} (is : take k d ≡ digits 10 k n) (p : Puts o at (take k d) r u) where
-    pub number-end : r < length u
-    number-end = omega (arith, digits-room, puts-length p (omega (arith, digits-room)), p .end)
+  module _ {u : List ℕ} {r : ℕ} (is : take k d ≡ digits 10 k n) (p : Pasted o at (take k d) r u) where
+    pub word-end : r < length u
+    word-end = omega (arith, digits-room, pasted-length p (omega (arith, digits-room)), p .end)
 
-    pub number-put : (b : ℕ) → Puts o at (word n b) (r + 1) (set u r b)
+    pub word-put : (b : ℕ) → Pasted o at (word n b) (r + 1) (set u r b)
     unfolding word
-    number-put b = rw (is ∙ spells k 20 n (few n k small w) w) at (puts-on p (omega arith) (puts-one u r b number-end))
+    word-put b = rw (is ∙ spells k 20 n (few n k small w) w) at (pasted-on p (omega arith) (pasted-one u r b word-end))

@@ -4,9 +4,8 @@ use mathlib.Core.Path.{_≡_, ap, _∙_}
 use mathlib.Core.List.{List, [], _∷_}
 use Prim.Native.Nat.{ℕ}
 use Rattle.events.specs.Events.{resultNumber}
-use Rattle.events.specs.Table.{Final}
+use Rattle.events.specs.Table.{Final, finalOf}
 use Rattle.events.specs.declared.Answer.{Answer}
-use Rattle.sessions.specs.Walks.{finalOf}
 use Rattle.mailindex.specs.Exports.{Answers, numbersOf}
 
 pub answers : {f : Final} {u n : List ℕ} {a : Answer} → finalOf u a ≡ f → n ≡ numbersOf a → Answers f u n

@@ -1,10 +1,8 @@
 // The four entries and the direction guess for C and Rust: include/mailindex.h documents each number.
 ghost use mathlib.Core.Path.{_≡_};
-ghost use mathlib.Core.Bool.{not};
-ghost use lib.Dec.{eqb};
 ghost use Rattle.direction.specs.Direction.{guess, guessNumber, side};
 ghost use Rattle.rules.specs.Sessions.{smtpClient, smtpServer, pop3Server, imapClient};
-ghost use Rattle.mailindex.specs.Exports.{Answers, numbersOf};
+ghost use Rattle.mailindex.specs.Exports.{Answers, numbersOf, held};
 use events::Answer;
 
 #[no_mangle]
@@ -46,9 +44,9 @@ pub extern "C" fn mailindex_direction(
     server_held: u32,
     server: &[u8],
 ) -> u32
-    ensures { λ r. ⌜ r ≡ guessNumber (guess protocol (side «client_port» (not (eqb «client_held» 0)) (now (client .entry))) (side «server_port» (not (eqb «server_held» 0)) (now (server .entry)))) ⌝ }
+    ensures { λ r. ⌜ r ≡ guessNumber (guess protocol (side «client_port» (held «client_held») (now (client .entry))) (side «server_port» (held «server_held») (now (server .entry)))) ⌝ }
 {
-    direction::number(direction::dir_confirm(
+    direction::guess_number(direction::dir_confirm(
         protocol,
         client_port,
         server_port,
@@ -65,7 +63,7 @@ fn numbers(a: Answer) -> [u64; 3]
 {
     let result = a.result;
     [
-        events::number(result) as u64,
+        events::result_number(result) as u64,
         a.place as u64,
         a.count as u64,
     ]

@@ -7,18 +7,19 @@ use native.Mathlib.Omega.{arith}
 use lib.ListN.{length, take, drop, getD, replicate, length-replicate}
 use lib.Seq.{length-take-le}
 use borrow.Author.Tests.{lt-ltb, le-ltb}
-use Rattle.entries.specs.Entries.{entryOf, answerOf}
-use Rattle.entries.specs.declared.Entry.{Entry}
-use Rattle.entries.specs.declared.Letter.the-variants.{Of, Other}
+use Rattle.letters.specs.Letters.{entryOf}
+use Rattle.rules.specs.Sessions.{answerOf}
+use Rattle.rules.specs.declared.Entry.{Entry}
+use Rattle.letters.specs.declared.Letter.the-variants.{Of, Other}
 use Rattle.events.specs.Table.{Final}
 use Rattle.listing.proofs.Lines.{listing-length}
-use Rattle.listing.proofs.Puts.{puts-length}
-use Rattle.listing.specs.Listing.{Puts, listing}
+use Rattle.listing.proofs.Pasted.{pasted-length}
+use Rattle.listing.specs.Listing.{Pasted, listing}
 use Rattle.reading.specs.Text.{text}
 use Rattle.maillist.specs.Maillist.{Prints, printed, byLetter, listed}
 
-prints : {o t u : List ℕ} {r : ℕ} → Puts o 0 t r u → length t ≤ length o → Prints o t r u
-prints {o} {t} {u} {r} p h = record { puts = p; within = omega (arith, p .end, puts-length p (omega arith)) }
+prints : {o t u : List ℕ} {r : ℕ} → Pasted o 0 t r u → length t ≤ length o → Prints o t r u
+prints {o} {t} {u} {r} p h = record { puts = p; within = omega (arith, p .end, pasted-length p (omega arith)) }
 
 -- ---- a session
 take-replicate : (n m : ℕ) → n ≤ m → take n (replicate {A = ℕ} m 0) ≡ replicate n 0
@@ -26,7 +27,7 @@ take-replicate zero m h = refl
 take-replicate (suc n) zero h = absurd (omega arith)
 take-replicate (suc n) (suc m) h = ap (_∷_ 0) (take-replicate n m (omega arith))
 
-pub long-printed : {o u : List ℕ} {r : ℕ} (e : Entry) (s : List ℕ) → 3072 < length s → 258111 ≤ length o → Puts o 0 (text "long\n") r u → Prints o (listed e s) r u
+pub long-printed : {o u : List ℕ} {r : ℕ} (e : Entry) (s : List ℕ) → 3072 < length s → 258111 ≤ length o → Pasted o 0 (text "long\n") r u → Prints o (listed e s) r u
 unfolding listed
 long-printed e s l room p = rw (lt-ltb 3072 (length s) l) (prints p (omega arith))
 
@@ -43,11 +44,11 @@ module _ {z : List ℕ} (m : ℕ) (is : z ≡ replicate m 0) where
     listed-is = rw (le-ltb 3072 (length s) l, is, take-replicate (4 * length s) m w)
 
     pub session-printed : {o u : List ℕ} {r : ℕ} (f : Final) → 258111 ≤ length o → f ≡ answerOf e (take (4 * length s) z) s → f .count ≤ 3072
-        → Puts o 0 (listing f) r u → Prints o (listed e s) r u
+        → Pasted o 0 (listing f) r u → Prints o (listed e s) r u
     session-printed f room a c p = rw (listed-is ∙ ap listing (sym a)) (prints p (omega (arith, listing-length f)))
 
 -- ---- an input
-pub none-printed : {o u : List ℕ} {r : ℕ} (l : List ℕ) → length l ≡ 0 → 258111 ≤ length o → Puts o 0 (text "bad\n") r u → Prints o (printed l) r u
+pub none-printed : {o u : List ℕ} {r : ℕ} (l : List ℕ) → length l ≡ 0 → 258111 ≤ length o → Pasted o 0 (text "bad\n") r u → Prints o (printed l) r u
 unfolding printed
 none-printed [] h room p = prints p (omega arith)
 none-printed (b ∷ l) h room p = absurd (omega arith)
@@ -58,7 +59,7 @@ some-printed [] h = absurd (h refl)
 some-printed (b ∷ l) h = refl
 
 module _ {o u : List ℕ} {r : ℕ} (l : List ℕ) (h : length l ≡ 0 → ⊥) where
-  pub bad-printed : entryOf (getD l 0 0) ≡ Other → 258111 ≤ length o → Puts o 0 (text "bad\n") r u → Prints o (printed l) r u
+  pub bad-printed : entryOf (getD l 0 0) ≡ Other → 258111 ≤ length o → Pasted o 0 (text "bad\n") r u → Prints o (printed l) r u
   unfolding byLetter
   bad-printed e room p = rw (some-printed l h, e) (prints p (omega arith))
 

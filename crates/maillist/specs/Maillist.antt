@@ -5,11 +5,12 @@ use mathlib.Core.List.{List, [], _∷_}
 use Prim.Native.Nat.{ℕ, _*_, _≤_}
 use lib.Dec.{ltb}
 use lib.ListN.{length, replicate}
-use Rattle.entries.specs.Entries.{entryOf, answerOf}
-use Rattle.entries.specs.declared.Entry.{Entry}
-use Rattle.entries.specs.declared.Letter.{Letter}
-use Rattle.entries.specs.declared.Letter.the-variants.{Of, Other}
-use Rattle.listing.specs.Listing.{Puts, listing}
+use Rattle.letters.specs.Letters.{entryOf}
+use Rattle.rules.specs.Sessions.{answerOf}
+use Rattle.rules.specs.declared.Entry.{Entry}
+use Rattle.letters.specs.declared.Letter.{Letter}
+use Rattle.letters.specs.declared.Letter.the-variants.{Of, Other}
+use Rattle.listing.specs.Listing.{Pasted, listing}
 use Rattle.reading.specs.Text.{text}
 
 abbrev pub longest : ℕ
@@ -30,5 +31,5 @@ printed (b ∷ s) = byLetter (entryOf b) s
 
 -- the text stands at the front of u, which was o, and is r bytes long
 pub record Prints (o t : List ℕ) (r : ℕ) (u : List ℕ) : Type 0 where
-  pub puts : Puts o 0 t r u
+  pub puts : Pasted o 0 t r u
   pub within : r ≤ length u

@@ -4,11 +4,11 @@ ghost use mathlib.Core.Path.{_≡_};
 ghost use Prim.Native.Nat.{_≤_};
 ghost use lib.ListN.{length, replicate};
 ghost use Rattle.maillist.specs.Maillist.{Prints, printed, listed};
-use entries::Entry;
-use entries::Letter;
 use input::Input;
+use letters::Letter;
 use libc::STDIN_FILENO;
 use libc::STDOUT_FILENO;
+use rules::Entry;
 
 // A letter, the session's bytes, and one byte by which a longer session is known.
 const INPUT: usize = 3_074;
@@ -44,7 +44,7 @@ fn answer(input: &[u8], out: &mut [u8]) -> usize
     if input.len() == 0 {
         return listing::put(out, 0, b"bad\n");
     }
-    match entries::entry_of(input[0]) {
+    match letters::entry_of(input[0]) {
         Letter::Other => listing::put(out, 0, b"bad\n"),
         Letter::Of(entry) => list(entry, &input[1..], out),
     }
@@ -60,7 +60,7 @@ fn list(entry: Entry, s: &[u8], out: &mut [u8]) -> usize
     let mut numbers = zeros();
     let lent = events::WIDTH * s.len();
     let table = &mut numbers[..lent];
-    let a = entries::dissect(entry, s, table);
+    let a = sessions::dissect(entry, s, table);
     listing::append(out, 0, table, a)
 }
 

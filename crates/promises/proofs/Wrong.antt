@@ -1,26 +1,18 @@
 -- Two wrong answers for each public contract, tried on an input that tells them: none of them meets it.
 -- Assumes nothing.
 use mathlib.Core.Path.{_≡_, refl}
-use mathlib.Core.Bool.{Bool, true, false, _||_}
+use mathlib.Core.Bool.{Bool, true, false}
 use mathlib.Core.List.{List, [], _∷_, _++_, map}
 use mathlib.Core.Option.{Option, none, some}
-use Prim.Native.Nat.{ℕ, _+_}
+use Prim.Native.Nat.{ℕ}
 use lib.ListN.{length, replicate}
-use lib.Seq.{paste}
-use Rattle.cases.specs.Cases.{two, four, headOf, mark, sidesOf, guessed, guessOf, pattern, only, sameFrom, sameNumbers}
-use Rattle.cases.specs.declared.Guessed.{Guessed}
-use Rattle.cases.specs.declared.Guessed.the-variants as guesses
 use Rattle.classes.specs.Classes.{isWhite, isBlank, isPopWhite, isDigit, isLetter, isUpper, upperOf}
 use Rattle.direction.specs.Direction.{side, guessNumber, guess, confirm}
 use Rattle.direction.specs.declared.Guess.the-variants.{Swapped}
-use Rattle.entries.specs.Entries.{entryOf}
-use Rattle.entries.specs.declared.Entry.the-variants as entry
-use Rattle.entries.specs.declared.Letter.{Letter}
-use Rattle.entries.specs.declared.Letter.the-variants as letter
 use Rattle.events.specs.Events.{ev, numbers, resultNumber, encodingNumber, sizedBody}
-use Rattle.events.specs.Table.{Final, final, store, pour, finish, tableOf}
+use Rattle.events.specs.Table.{Final, store, pour, finish, tableOf}
 use Rattle.events.specs.declared.Encoding.the-variants.{Base64}
-use Rattle.events.specs.declared.Outcome.the-variants.{Done, SmallLiteral, TooDeep}
+use Rattle.events.specs.declared.Outcome.the-variants.{TooDeep}
 use Rattle.fields.specs.Common.{encodingNamed, behindSpaces, transferEncoding, closed, quoted, unquoted, typed, named, bareParameter, parameter, contentType, contentTypeExt, firstEncoding, byType, byExt, byBoundary, scanned, unknown, dashBdry}
 use Rattle.fields.specs.Imap.{appendFollows, isAppend, dark, trimmed, braced, fromBrace, sizeOf, appendSize, holdsColon}
 use Rattle.fields.specs.Pop3.{stlsAnswer, octets, octetsFollow, numbered, retrAnswer}
@@ -37,8 +29,7 @@ use Rattle.fields.specs.declared.smtp.Address.{Address}
 use Rattle.fields.specs.declared.smtp.Address.the-variants as address
 use Rattle.fields.specs.declared.smtp.Second.{Second}
 use Rattle.fields.specs.declared.smtp.Second.the-variants as line
-use Rattle.listing.specs.Listing.{spelled, word, line as textLine, eventAt, eventLines, listing}
-use Rattle.mailindex.specs.Exports.{numbersOf}
+use Rattle.reading.proofs.Rows.{Row, _is-neither_nor_, met}
 use Rattle.reading.specs.Bytes.{startsWith, same, endsWith, raised, first, firstPlace, holds, stands, found, contains}
 use Rattle.reading.specs.Reading.{clean, dropEnd, mayStand, delimits, past, reach, parted, fetch, aLine}
 use Rattle.reading.specs.Text.{text}
@@ -60,7 +51,6 @@ says-yes =
     ∷ dashBdry (text "q") (text "--q--\r\n") ∷ isAppend (text "a APPEND") ∷ holdsColon (text "a:")
     ∷ stlsAnswer (text "+OK Tls") ∷ retrAnswer (text "+OK 1 octets") ∷ octets (text "4294967295")
     ∷ startsWithHelo (text "ehlo") ∷ isMailFrom (text "mail from:") ∷ isData (text "data")
-    ∷ only 7 (7 ∷ []) ∷ sameNumbers (513 ∷ []) (1 ∷ 2 ∷ 0 ∷ 0 ∷ [])
     ∷ []
 
 abbrev says-no : List Bool
@@ -71,11 +61,10 @@ says-no =
     ∷ dashBdry (text "q") (text "--q\n") ∷ isAppend (text "APPEND") ∷ holdsColon (text "a")
     ∷ stlsAnswer (text "-ERR tls") ∷ retrAnswer (text "+OK12 octets") ∷ octets (text "4294967296")
     ∷ startsWithHelo (text "helx") ∷ isMailFrom (text "mail from") ∷ isData (text "dat")
-    ∷ only 7 (7 ∷ 8 ∷ []) ∷ sameNumbers (513 ∷ []) (1 ∷ 3 ∷ 0 ∷ 0 ∷ [])
     ∷ []
 
-pub neither-always-nor-never : (says-yes ≡ replicate 23 true) × (says-no ≡ replicate 23 false)
-unfolding isWhite isBlank isPopWhite isDigit isLetter isUpper upperOf startsWith same endsWith raised contains found first firstPlace stands holds dashBdry isAppend appendFollows lead runs holdsColon stlsAnswer retrAnswer numbered octets octetsFollow worth worthBehind startsWithHelo isMailFrom isData only sameNumbers sameFrom four two
+pub neither-always-nor-never : (says-yes ≡ replicate 21 true) × (says-no ≡ replicate 21 false)
+unfolding isWhite isBlank isPopWhite isDigit isLetter isUpper upperOf startsWith same endsWith raised contains found first firstPlace stands holds dashBdry isAppend appendFollows lead runs holdsColon stlsAnswer retrAnswer numbered octets octetsFollow worth worthBehind startsWithHelo isMailFrom isData
 neither-always-nor-never = (refl, refl)
 
 -- ---- answers as numbers
@@ -106,35 +95,12 @@ second line.AuthLogin = 1 ∷ []
 second line.MailFrom = 2 ∷ []
 second line.Other = 3 ∷ []
 
-abbrev entered : Letter → List ℕ
-entered (letter.Of entry.SmtpClient) = 0 ∷ []
-entered (letter.Of entry.SmtpServer) = 1 ∷ []
-entered (letter.Of entry.Pop3Server) = 2 ∷ []
-entered (letter.Of entry.ImapClient) = 3 ∷ []
-entered letter.Other = 4 ∷ []
-
-abbrev guessNo : Guessed → List ℕ
-guessNo (guesses.Number n) = n ∷ []
-guessNo guesses.Broken = []
-
 abbrev known : Option (List ℕ) → List ℕ
 known (some b) = b
 known none = []
 
 abbrev outcome : Final → List ℕ
 outcome f = resultNumber (f .result) ∷ f .place ∷ f .count ∷ f .table
-
-record Row : Type 0 where
-  right : List ℕ
-  one : List ℕ
-  other : List ℕ
-
-abbrev _is-neither_nor_ : List ℕ → List ℕ → List ℕ → Row
-r is-neither a nor b = record { right = r; one = a; other = b }
-
-infix 1 _is-neither_nor_
-abbrev met : Row → Bool
-met r = same (r .right) (r .one) || same (r .right) (r .other)
 
 abbrev greeting : List ℕ
 greeting = text "EHLO a\r\nMAIL FROM: <b@c>\r\n"
@@ -183,19 +149,6 @@ leaves =
     (found-at (mailFrom (text "MAIL FROM: <b>")) ++ found-at (mailFrom (text "MAIL FROM: <b")) is-neither 12 ∷ 2 ∷ 12 ∷ 1 ∷ [] nor 12 ∷ 1 ∷ []) ∷
     -- rcpt_to: with the >; up to the line's end where it has none
     (found-at (rcptTo (text "RCPT TO: <b>")) ++ found-at (rcptTo (text "RCPT TO: <b")) is-neither 10 ∷ 2 ∷ [] nor 10 ∷ 1 ∷ 10 ∷ 1 ∷ []) ∷
-    -- listing's put: nothing put; at the front. Its number and append: backwards; without what stands behind
-    (paste (7 ∷ 7 ∷ 7 ∷ []) 1 (5 ∷ []) 1 is-neither 7 ∷ 7 ∷ 7 ∷ [] nor 5 ∷ 7 ∷ 7 ∷ []) ∷
-    (word 12 10 is-neither 50 ∷ 49 ∷ 10 ∷ [] nor 49 ∷ 50 ∷ []) ∷
-    (listing (final [] Done 1 0) is-neither text "0 0 1\n" nor text "0 1\n") ∷
-    -- cases' number, head_of, guess, fill: the greatest first; one number too few
-    (four (1 ∷ 2 ∷ 0 ∷ 0 ∷ []) 0 ∷ [] is-neither 16908288 ∷ [] nor 258 ∷ []) ∷
-    (headOf (83 ∷ 1 ∷ 0 ∷ 0 ∷ 0 ∷ 2 ∷ 0 ∷ 0 ∷ 0 ∷ []) .slots ∷ headOf (83 ∷ 1 ∷ 0 ∷ 0 ∷ 0 ∷ 2 ∷ 0 ∷ 0 ∷ 0 ∷ []) .length ∷ [] is-neither 2 ∷ 1 ∷ [] nor 2 ∷ 2 ∷ []) ∷
-    (guessNo (guessOf (9 ∷ [])) ++ guessNo (guessOf (9 ∷ 0 ∷ 0 ∷ 0 ∷ 0 ∷ 0 ∷ 0 ∷ 0 ∷ 0 ∷ 0 ∷ 0 ∷ 0 ∷ 0 ∷ [])) is-neither [] nor 0 ∷ 3 ∷ []) ∷
-    (replicate 2 pattern is-neither pattern ∷ [] nor 0 ∷ 0 ∷ []) ∷
-    -- the C library's entries: place and count changed over; no result
-    (numbersOf (record { result = SmallLiteral; place = 25; count = 3 }) is-neither 7 ∷ 3 ∷ 25 ∷ [] nor 0 ∷ 25 ∷ 3 ∷ []) ∷
-    -- entry_of: the server for the client; none
-    (entered (entryOf 83) is-neither 1 ∷ [] nor 4 ∷ []) ∷
     []
 
 -- the entries and `dissect`: a dissector that refuses everything; one with a constant answer; one that writes nothing; one whose count is made up
@@ -207,6 +160,6 @@ dissectors =
     (outcome (imapClient (replicate 4 99) (text "a\nb")) is-neither 0 ∷ 2 ∷ 1 ∷ 7 ∷ 0 ∷ 1 ∷ 0 ∷ [] nor 1 ∷ 2 ∷ 1 ∷ replicate 4 99) ∷
     []
 
-pub wrong-answers : map met (leaves ++ dissectors) ≡ replicate 35 false
-unfolding answer settle resultOf placeOf react reacts need wants runs-on go turn fetch parted reach past first firstPlace holds stands found contains delimits mayStand startsWith same endsWith raised clean dropEnd upperOf isLetter isUpper isWhite isBlank isPopWhite isDigit store pour finish lead runs last lastPlace through worth worthBehind upTo transferEncoding encodingNamed behindSpaces closed quoted unquoted typed named bareParameter parameter contentType contentTypeExt firstEncoding byType byExt byBoundary scanned dashBdry startsWithHelo isMailFrom secondLine isData upToEnd closingAt mailFrom required rcptTo stlsAnswer octets octetsFollow numbered retrAnswer appendFollows isAppend dark trimmed braced fromBrace sizeOf appendSize holdsColon onHello given bySecond onSecond onRecipient byRecipient onReply onStatus onCommand onOffered guess confirm spelled word textLine eventAt eventLines listing four two headOf sidesOf mark guessed guessOf entryOf
+pub wrong-answers : map met (leaves ++ dissectors) ≡ replicate 26 false
+unfolding answer settle resultOf placeOf react reacts need wants runs-on go turn fetch parted reach past first firstPlace holds stands found contains delimits mayStand startsWith same endsWith raised clean dropEnd upperOf isLetter isUpper isWhite isBlank isPopWhite isDigit store pour finish lead runs last lastPlace through worth worthBehind upTo transferEncoding encodingNamed behindSpaces closed quoted unquoted typed named bareParameter parameter contentType contentTypeExt firstEncoding byType byExt byBoundary scanned dashBdry startsWithHelo isMailFrom secondLine isData upToEnd closingAt mailFrom required rcptTo stlsAnswer octets octetsFollow numbered retrAnswer appendFollows isAppend dark trimmed braced fromBrace sizeOf appendSize holdsColon onHello given bySecond onSecond onRecipient byRecipient onReply onStatus onCommand onOffered guess confirm
 wrong-answers = refl

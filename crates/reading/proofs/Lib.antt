@@ -5,4 +5,5 @@ pub mod Pieces
 pub mod Alike
 pub mod Passing
 pub mod Matching
+pub mod Rows
 mod Cases

@@ -10,7 +10,7 @@ use lib.ListN.{length, take, drop, getD, take-append-drop, length-take, length-d
 use lib.Seq.{getD-take, take-take, length-take-le, take-nil, take-at, drop-at}
 use borrow.Author.Tests.{ltb-true, lt-ltb}
 use Rattle.reading.specs.Bytes.{startsWith, firstPlace, holds}
-use Rattle.reading.specs.Reading.{dash, mayStand, delimits, Need, aLine, bytes, delimiter, nothing, past, reach, Got, got, short, parted, fetch}
+use Rattle.reading.specs.Reading.{dash, mayStand, delimits, Need, aLine, bytes, delimiter, nothing, past, reach, got, parted, fetch}
 use Rattle.reading.specs.declared.Place.{Place}
 use Rattle.reading.specs.declared.Place.the-variants.{At, Nowhere}
 use Rattle.reading.proofs.Places.{at-same, first-moved, first-inside, first-passes}
@@ -140,11 +140,3 @@ module _ (need : Need) (s p r : List ℕ) (g : fetch need s ≡ got p r) where
   -- the piece alone is read the same
   pub got-itself : fetch need p ≡ got p []
   got-itself = ap (fetch need) (sym (append-nil p)) ∙ got-alone []
-
-short-if : (need : Need) (s t : List ℕ) (g : Got) → fetch need s ≡ g → fetch need (s ++ t) ≡ short → fetch need s ≡ short
-short-if need s t short e h = e
-short-if need s t (got p r) e h = absurd (let c = got-holds need s p r e t in let z : _≡_ {A = ℕ} 0 1 = cc in omega arith)
-
--- a read that is short stays short on every beginning
-pub short-before : (need : Need) (s t : List ℕ) → fetch need (s ++ t) ≡ short → fetch need s ≡ short
-short-before need s t h = short-if need s t (fetch need s) refl h

@@ -10,8 +10,8 @@ use Rattle.cases.specs.Cases.{four, headOf, guessOf, pattern}
 use Rattle.cases.specs.declared.Guessed.{Guessed}
 use Rattle.cases.specs.declared.Guessed.the-variants.{Number}
 use Rattle.cases.specs.declared.Head.{Head}
-use Rattle.entries.specs.Entries.{answerOf}
-use Rattle.entries.specs.declared.Entry.{Entry}
+use Rattle.rules.specs.Sessions.{answerOf}
+use Rattle.rules.specs.declared.Entry.{Entry}
 use Rattle.events.specs.Table.{Final}
 use Rattle.replay.specs.Replay.{agree, judge, guessJudged, OrBroken, broken, good, OfDirection, OfSession, OfRecord, groupOf, nextOf, OfFile, behind}
 use Rattle.replay.specs.declared.Next.{Next}

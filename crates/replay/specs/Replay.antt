@@ -10,9 +10,10 @@ use Rattle.cases.specs.Cases.{four, headOf, guessOf, pattern, only, sameNumbers
 use Rattle.cases.specs.declared.Guessed.{Guessed}
 use Rattle.cases.specs.declared.Guessed.the-variants as guesses
 use Rattle.cases.specs.declared.Head.{Head}
-use Rattle.entries.specs.Entries.{entryOf, answerOf}
-use Rattle.entries.specs.declared.Entry.{Entry}
-use Rattle.entries.specs.declared.Letter.the-variants.{Of}
+use Rattle.letters.specs.Letters.{entryOf}
+use Rattle.rules.specs.Sessions.{answerOf}
+use Rattle.rules.specs.declared.Entry.{Entry}
+use Rattle.letters.specs.declared.Letter.the-variants.{Of}
 use Rattle.events.specs.Events.{resultNumber}
 use Rattle.events.specs.Table.{Final}
 use Rattle.replay.specs.declared.Next.{Next}

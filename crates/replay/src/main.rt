@@ -4,15 +4,15 @@
 ghost use mathlib.Core.Path.{_≡_};
 ghost use Prim.Native.Nat.{_*_, _≤_};
 ghost use lib.ListN.{length};
-ghost use Rattle.events.specs.Table.{final};
+ghost use Rattle.events.specs.Table.{finalOf};
 ghost use Rattle.replay.specs.Replay.{agree, judge, OrBroken, OfDirection, OfSession, OfRecord, OfFile, indexOf, letterOf, groupOf, countedIn};
 use cases::Guessed;
 use cases::Head;
-use entries::Entry;
-use entries::Letter;
 use events::Answer;
 use input::Input;
+use letters::Letter;
 use libc::STDOUT_FILENO;
+use rules::Entry;
 use std::num::wrapping_add_u64;
 
 // A session's bytes, its stored events, and the numbers of its table with some over.
@@ -179,7 +179,7 @@ fn read_case(
     if head.letter == b'D' {
         return direction_case(fd, &bytes[..length]);
     }
-    match entries::entry_of(head.letter) {
+    match letters::entry_of(head.letter) {
         Letter::Other => Replayed::Broken,
         Letter::Of(entry) => session_case(fd, entry, head.slots, &bytes[..length], events, table),
     }
@@ -200,7 +200,7 @@ fn direction_case(fd: i32, bytes: &[u8]) -> Replayed
     if !filled(fd, &mut stored) {
         return Replayed::Broken;
     }
-    let result = cases::number(&stored, 0);
+    let result = cases::four(&stored, 0);
     match cases::guess(bytes) {
         Guessed::Broken => Replayed::Broken,
         Guessed::Number(n) => judged(n == result, result),
@@ -230,7 +230,7 @@ fn session_case(
     if !filled(fd, &mut stored) {
         return Replayed::Broken;
     }
-    let n = cases::number(&stored, 8) as usize;
+    let n = cases::four(&stored, 8) as usize;
     if events.len() / EVENT < n {
         return Replayed::Broken;
     }
@@ -248,23 +248,23 @@ fn session_case(
     }
     let t = &mut table[..lent];
     cases::fill(t);
-    let a = entries::dissect(entry, bytes, t);
+    let a = sessions::dissect(entry, bytes, t);
     judged(
         agrees(t, a, &stored, &events[..size]),
-        cases::number(&stored, 0),
+        cases::four(&stored, 0),
     )
 }
 
 // Whether an answer and its table are the stored ones, and no number behind the events was written.
 fn agrees(table: &[u32], a: Answer, stored: &[u8], events: &[u8]) -> bool
     requires { ⌜ (4 * (a .count) ≤ length (now table)) × (12 ≤ length (now stored)) ⌝ }
-    ensures { λ r. ⌜ r ≡ agree (final (now (table .entry)) (a .result) (a .place) (a .count)) (now (stored .entry)) (now (events .entry)) ⌝ }
+    ensures { λ r. ⌜ r ≡ agree (finalOf (now (table .entry)) a) (now (stored .entry)) (now (events .entry)) ⌝ }
 {
     let result = a.result;
-    if events::number(result) != cases::number(stored, 0) {
+    if events::result_number(result) != cases::four(stored, 0) {
         return false;
     }
-    if a.place as u64 != cases::number(stored, 4) as u64 {
+    if a.place as u64 != cases::four(stored, 4) as u64 {
         return false;
     }
     let written = events::WIDTH * a.count;
@@ -288,8 +288,8 @@ fn print_group(g: usize, n: u64) {
     let mut out = [0u8; 64];
     out[0] = letter_of(g / RESULTS);
     out[1] = b' ';
-    let result = listing::number(&mut out, 2, (g % RESULTS) as u64, b' ');
-    let end = listing::number(&mut out, result, n, b'\n');
+    let result = listing::word(&mut out, 2, (g % RESULTS) as u64, b' ');
+    let end = listing::word(&mut out, result, n, b'\n');
     io::write_all(STDOUT_FILENO, &out[..end]);
 }
 

@@ -16,7 +16,7 @@ use Rattle.fields.specs.Pop3.{stlsAnswer, octets, octetsFollow, numbered, retrA
 use Rattle.fields.specs.Imap.{appendFollows, isAppend, dark, trimmed, braced, fromBrace, sizeOf, appendSize, holdsColon}
 use Rattle.rules.specs.Machine.{turn, go, run}
 use Rattle.rules.specs.Phases.{wants, need}
-use Rattle.rules.specs.Mail.{afterMail, literalBody, rest, plainMail, plain, begun, onHead, onText, onLiteral, onPreamble, onOpened, held, whole, contentLength, onContent, outermost, byRest, skip, onBetween, lastLine, popped, onSkipping, onResting}
+use Rattle.rules.specs.Mail.{afterMail, literalBody, rest, plainMail, boundaryFree, begun, onHead, onText, onLiteral, onPreamble, onOpened, held, whole, contentLength, onContent, outermost, byRest, skip, onBetween, lastLine, popped, onSkipping, onResting}
 use Rattle.rules.specs.Smtp.{onHello, given, bySecond, onSecond, onUser, onPassword, onSender, onSeeking, byRecipient, onRecipient, onReply}
 use Rattle.rules.specs.Pop3.{onStatus}
 use Rattle.rules.specs.Imap.{onCommand, onOffered, onClosing}
@@ -152,7 +152,7 @@ abbrev Holds : List Case → Type 0
 Holds cs = map (λ c. c .answers) cs ≡ map (λ c. c .wanted) cs
 
 both : Holds small × Holds further
-unfolding answer settle resultOf placeOf react reacts need wants run go turn fetch parted reach past first firstPlace holds stands found contains delimits mayStand startsWith same endsWith raised clean dropEnd upperOf isLetter isUpper isWhite isBlank isPopWhite isDigit store pour finish lead runs last lastPlace through worth worthBehind transferEncoding encodingNamed behindSpaces closed quoted unquoted typed named bareParameter parameter contentType contentTypeExt firstEncoding byType byExt byBoundary scanned dashBdry startsWithHelo isMailFrom secondLine isData upToEnd closingAt mailFrom required rcptTo stlsAnswer octets octetsFollow numbered retrAnswer appendFollows isAppend dark trimmed braced fromBrace sizeOf appendSize holdsColon afterMail literalBody rest plainMail plain begun onHead onText onLiteral onPreamble onOpened held whole contentLength onContent outermost byRest skip onBetween lastLine popped onSkipping onResting onHello given bySecond onSecond onUser onPassword onSender onSeeking byRecipient onRecipient onReply onStatus onCommand onOffered onClosing
+unfolding answer settle resultOf placeOf react reacts need wants run go turn fetch parted reach past first firstPlace holds stands found contains delimits mayStand startsWith same endsWith raised clean dropEnd upperOf isLetter isUpper isWhite isBlank isPopWhite isDigit store pour finish lead runs last lastPlace through worth worthBehind transferEncoding encodingNamed behindSpaces closed quoted unquoted typed named bareParameter parameter contentType contentTypeExt firstEncoding byType byExt byBoundary scanned dashBdry startsWithHelo isMailFrom secondLine isData upToEnd closingAt mailFrom required rcptTo stlsAnswer octets octetsFollow numbered retrAnswer appendFollows isAppend dark trimmed braced fromBrace sizeOf appendSize holdsColon afterMail literalBody rest plainMail boundaryFree begun onHead onText onLiteral onPreamble onOpened held whole contentLength onContent outermost byRest skip onBetween lastLine popped onSkipping onResting onHello given bySecond onSecond onUser onPassword onSender onSeeking byRecipient onRecipient onReply onStatus onCommand onOffered onClosing
 both = (refl, refl)
 
 pub small-set : Holds small

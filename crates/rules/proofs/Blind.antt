@@ -32,11 +32,11 @@ use Rattle.reading.specs.Text.{text}
 use Rattle.reading.specs.Reading.{aLine, bytes, got, fetch, reach, parted, clean, crlf}
 use Rattle.rules.specs.Imap.{onCommand, onOffered, onClosing}
 use Rattle.rules.specs.Machine.{Reaction}
-use Rattle.rules.specs.Mail.{dotLine, hyphens, levels, rest, literalBody, plainMail, plain, begun, onHead, onText, onLiteral, onPreamble, onOpened, held, whole, contentLength, onContent, skip, onBetween, onSkipping, onResting}
+use Rattle.rules.specs.Mail.{dotLine, hyphens, levels, rest, literalBody, plainMail, boundaryFree, begun, onHead, onText, onLiteral, onPreamble, onOpened, held, whole, contentLength, onContent, skip, onBetween, onSkipping, onResting}
 use Rattle.rules.specs.Phases.{Phase, State, reads, ends, wants, need, then, stop}
 use Rattle.rules.specs.Phases
 use Rattle.rules.specs.Pop3.{onStatus}
-use Rattle.rules.specs.Secrecy.{inside, plain as unbroken, mayTurn, may, Replaced}
+use Rattle.rules.specs.Secrecy.{inside, noLineEnd, mayTurn, may, Replaced}
 use Rattle.rules.specs.Sessions.{reacts, react}
 use Rattle.rules.specs.Smtp.{onHello, given, tried, bySecond, onSecond, onUser, onPassword, onSender, onSeeking, byRecipient, onRecipient, onReply}
 use Rattle.rules.specs.declared.Mail.{Mail}
@@ -89,8 +89,8 @@ still-mail Smtp e to = refl
 still-mail Pop3 e to = refl
 still-mail (Imap size start) e to = either (ltb size (to - start)) (stop [] SmallLiteral to) (literalBody e to (rest (Imap size start) to)) refl (still-literal e to (rest (Imap size start) to))
 
-still-plain : (m : Mail) (e : Encoding) (os : List (List ℕ)) (to : ℕ) → still (plain m e os to .events) ≡ true
-unfolding plain still secret
+still-plain : (m : Mail) (e : Encoding) (os : List (List ℕ)) (to : ℕ) → still (boundaryFree m e os to .events) ≡ true
+unfolding boundaryFree still secret
 still-plain m e [] to = still-mail m e to
 still-plain m e (b ∷ os) to = refl
 
@@ -115,11 +115,11 @@ still-content e at (suc n) = refl
 
 -- ---- lines in which neither CR nor LF is replaced or brought in, and no dot brought in
 unfoldable fresh : ℕ → Bool
-fresh c = unbroken c && not (eqb c 46)
+fresh c = noLineEnd c && not (eqb c 46)
 
 record Kept (p q : List ℕ) : Type 0 where
   long : length q ≡ length p
-  bytes : (i : ℕ) → i < length p → (getD p i 0 ≡ getD q i 0) ⊎ ((unbroken (getD p i 0) ≡ true) × (fresh (getD q i 0) ≡ true))
+  bytes : (i : ℕ) → i < length p → (getD p i 0 ≡ getD q i 0) ⊎ ((noLineEnd (getD p i 0) ≡ true) × (fresh (getD q i 0) ≡ true))
 
 pub or-same : (x a : Bool) → a ≡ true → (x || a) ≡ true
 or-same true a h = refl
@@ -130,31 +130,31 @@ or-left true b h g = refl
 or-left false b h g = absurd (apart (sym h ∙ g))
 
 turned : (k o n p b c : ℕ) (e : Encoding) → eqb k sizedBody ≡ false → may (ev k o n e ∷ []) p b c ≡ true
-    → (b ≡ c) ⊎ ((unbroken b ≡ true) × (fresh c ≡ true))
+    → (b ≡ c) ⊎ ((noLineEnd b ≡ true) × (fresh c ≡ true))
 unfolding may mayTurn fresh
 turned k o n p b c e z h =
     by-test (eqb b c)
     (λ t. inl (eqb-true b c t))
     (λ f.
     let i = both-true (inside (ev k o n e) p) (mayTurn k b c) (or-left (inside (ev k o n e) p && mayTurn k b c) (eqb b c) h f) .1 in
-    let j = both-true (eqb k user || (eqb k password || eqb k bodyLine)) (unbroken b && fresh c) (or-left _ (eqb k sizedBody) i z) .1 in
-    inr (both-true (unbroken b) (fresh c) j))
+    let j = both-true (eqb k user || (eqb k password || eqb k bodyLine)) (noLineEnd b && fresh c) (or-left _ (eqb k sizedBody) i z) .1 in
+    inr (both-true (noLineEnd b) (fresh c) j))
 
 -- a CR stays a CR, an LF an LF, and no other byte becomes one
-mark-kept : (x : ℕ) {p q : List ℕ} → ((b : ℕ) → unbroken b ≡ true → eqb b x ≡ false) → Kept p q → (i : ℕ) → i < length p → eqb (getD q i 0) x ≡ eqb (getD p i 0) x
+mark-kept : (x : ℕ) {p q : List ℕ} → ((b : ℕ) → noLineEnd b ≡ true → eqb b x ≡ false) → Kept p q → (i : ℕ) → i < length p → eqb (getD q i 0) x ≡ eqb (getD p i 0) x
 unfolding fresh
 mark-kept x {p} {q} other w i h = by-byte (w .bytes i h)
   where
-    by-byte : (getD p i 0 ≡ getD q i 0) ⊎ ((unbroken (getD p i 0) ≡ true) × (fresh (getD q i 0) ≡ true)) → eqb (getD q i 0) x ≡ eqb (getD p i 0) x
+    by-byte : (getD p i 0 ≡ getD q i 0) ⊎ ((noLineEnd (getD p i 0) ≡ true) × (fresh (getD q i 0) ≡ true)) → eqb (getD q i 0) x ≡ eqb (getD p i 0) x
     by-byte (inl e) = ap (λ (b : ℕ). eqb b x) (sym e)
-    by-byte (inr e) = other (getD q i 0) (both-true (unbroken (getD q i 0)) _ (e .1) .0) ∙ sym (other (getD p i 0) (e .0))
+    by-byte (inr e) = other (getD q i 0) (both-true (noLineEnd (getD q i 0)) _ (e .1) .0) ∙ sym (other (getD p i 0) (e .0))
 
-no-cr : (b : ℕ) → unbroken b ≡ true → eqb b 13 ≡ false
-unfolding unbroken
+no-cr : (b : ℕ) → noLineEnd b ≡ true → eqb b 13 ≡ false
+unfolding noLineEnd
 no-cr b h = not-true (eqb b 13) (both-true (not (eqb b 13)) (not (eqb b 10)) h .0)
 
-no-lf : (b : ℕ) → unbroken b ≡ true → eqb b 10 ≡ false
-unfolding unbroken
+no-lf : (b : ℕ) → noLineEnd b ≡ true → eqb b 10 ≡ false
+unfolding noLineEnd
 no-lf b h = not-true (eqb b 10) (both-true (not (eqb b 13)) (not (eqb b 10)) h .1)
 
 clean-kept : {p q : List ℕ} → Kept p q → length (clean q) ≡ length (clean p)
@@ -177,7 +177,7 @@ line-blind ph k n at e p a z h g es same =
 
 -- a dot line has no fresh byte, so that it was one before
 not-fresh : (i : ℕ) → i < 3 → fresh (getD dotLine i 0) ≡ false
-unfolding fresh unbroken
+unfolding fresh noLineEnd
 not-fresh zero h = refl
 not-fresh (suc zero) h = refl
 not-fresh (suc (suc zero)) h = refl
@@ -186,7 +186,7 @@ not-fresh (suc (suc (suc i))) h = absurd (omega arith)
 was-dot : {p q : List ℕ} → Kept p q → q ≡ dotLine → p ≡ dotLine
 was-dot {p} {q} w e = ext-getD 0 p dotLine (sym (w .long) ∙ ap length e) (λ i h. by-byte i (omega (arith, w .long, ap length e)) (w .bytes i h))
   where
-    by-byte : (i : ℕ) → i < 3 → (getD p i 0 ≡ getD q i 0) ⊎ ((unbroken (getD p i 0) ≡ true) × (fresh (getD q i 0) ≡ true)) → getD p i 0 ≡ getD dotLine i 0
+    by-byte : (i : ℕ) → i < 3 → (getD p i 0 ≡ getD q i 0) ⊎ ((noLineEnd (getD p i 0) ≡ true) × (fresh (getD q i 0) ≡ true)) → getD p i 0 ≡ getD dotLine i 0
     by-byte i h (inl b) = b ∙ ap (λ (l : List ℕ). getD l i 0) e
     by-byte i h (inr b) = absurd (apart (sym (b .1) ∙ ap (λ (l : List ℕ). fresh (getD l i 0)) e ∙ not-fresh i h))
 

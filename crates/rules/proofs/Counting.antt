@@ -26,18 +26,18 @@ use Rattle.fields.specs.declared.smtp.Second.{Second}
 use Rattle.fields.specs.declared.smtp.Second.the-variants as is
 use Rattle.reading.proofs.Pieces.{got-splits, got-moves, got-itself, got-reach, got-length}
 use Rattle.reading.proofs.Words.{both-true}
-use Rattle.reading.specs.Bytes.{startsWith, same, endsWith, first as firstOf, firstPlace, holds}
+use Rattle.reading.specs.Bytes.{startsWith, same, endsWith, first, firstPlace, holds}
 use Rattle.reading.specs.Reading.{clean, dropEnd, crlf, dash, aLine, delimiter, Got, got, short, past, reach, parted, fetch}
 use Rattle.reading.specs.Text.{text}
 use Rattle.reading.specs.declared.Place.{Place}
 use Rattle.reading.specs.declared.Place.the-variants.{At, Nowhere}
 use Rattle.rules.specs.Imap.{onCommand, onOffered, onClosing}
 use Rattle.rules.specs.Machine.{Reaction, Ran, turn, go, run}
-use Rattle.rules.specs.Mail.{dotLine, hyphens, levels, afterMail, rest, literalBody, plainMail, plain, begun, onHead, onText, held, whole, onLiteral, onPreamble, onOpened, contentLength, onContent, outermost, byRest, skip, onBetween, lastLine, popped, onSkipping, onResting}
+use Rattle.rules.specs.Mail.{dotLine, hyphens, levels, afterMail, rest, literalBody, plainMail, boundaryFree, begun, onHead, onText, held, whole, onLiteral, onPreamble, onOpened, contentLength, onContent, outermost, byRest, skip, onBetween, lastLine, popped, onSkipping, onResting}
 use Rattle.rules.specs.Phases
-use Rattle.rules.specs.Phases.{Phase, State, reads, ends, wants, need, then, stop, first}
+use Rattle.rules.specs.Phases.{Phase, State, reads, ends, wants, need, then, stop, ahead}
 use Rattle.rules.specs.Pop3.{onStatus}
-use Rattle.rules.specs.Sessions.{reacts, react, session, resultOf, placeOf, settle, limit, answer, smtpClient, smtpServer, pop3Server, imapClient}
+use Rattle.rules.specs.Sessions.{reacts, react, session, resultOf, placeOf, settle, limit, answer}
 use Rattle.rules.specs.Smtp.{onHello, given, bySecond, onSecond, onUser, onPassword, onSender, onSeeking, byRecipient, onRecipient, onReply}
 use Rattle.rules.specs.declared.Mail.{Mail}
 use Rattle.rules.specs.declared.Mail.the-variants.{Smtp, Pop3, Imap}
@@ -93,7 +93,7 @@ unfolding credit resultOf
 over h = record { paid = omega arith; fine = h }
 
 -- an event before a reaction costs one
-cost : {n : ℕ} {e : Event} {re : Reaction State} → 0 < n → Pays (n - 1) re → Pays n (first e re)
+cost : {n : ℕ} {e : Event} {re : Reaction State} → 0 < n → Pays (n - 1) re → Pays n (ahead e re)
 cost h p = record { paid = omega (arith, p .paid); fine = p .fine }
 
 more : {n m : ℕ} {re : Reaction State} → n ≤ m → Pays n re → Pays m re
@@ -171,8 +171,8 @@ module _ (e : Encoding) (to : ℕ) where
   mail-starts Pop3 = on (omega arith)
   mail-starts (Imap size start) = either (Pays 2) (ltb size (to - start)) (λ t. over refl) (literal-starts (rest (Imap size start) to))
 
-  plain-starts : (m : Mail) (os : List (List ℕ)) → Pays (1 + mailCredit m) (plain m e os to)
-  unfolding plain phaseCredit
+  plain-starts : (m : Mail) (os : List (List ℕ)) → Pays (1 + mailCredit m) (boundaryFree m e os to)
+  unfolding boundaryFree phaseCredit
   plain-starts m [] = mail-starts m
   plain-starts m (b ∷ os) = on (omega arith)
 
@@ -207,7 +207,7 @@ delimiter-two b l g =
 
 -- ---- IMAP: a line of one byte is an LF, and no APPEND
 lone-line : (x : ℕ) (b : Bool) → eqb x 10 ≡ b → fetch aLine (x ∷ []) ≡ got (x ∷ []) [] → isAppend (clean (x ∷ [])) ≡ false
-unfolding fetch parted reach past firstPlace firstOf holds clean dropEnd endsWith same startsWith isAppend lead
+unfolding fetch parted reach past firstPlace first holds clean dropEnd endsWith same startsWith isAppend lead
 lone-line x true e g = rw e
 lone-line x false e g = absurd (let s : fetch aLine (x ∷ []) ≡ short = rw e in let z : _≡_ {A = ℕ} 0 1 = cc in omega arith)
 
@@ -317,15 +317,3 @@ unfolding answer isTen resultOf
 slots-suffice start c t s h =
     either (λ (f : Final). isTen (f .result) ≡ false) (ltb limit (length s)) (λ b. refl)
     (settled-fine t (session (reads start) 0 s) (omega (arith, events-bound (reads start) 0 s)) (run-bounded (reads start) 0 s .fine refl))
-
--- both of them, for each of the four entries, with any table t and any bytes s
-pub record Fits (entry : List ℕ → List ℕ → Final) : Type 0 where
-  pub count : (t s : List ℕ) → entry t s .count ≤ length s
-  pub room : (t s : List ℕ) → length s ≤ slots t → isTen (entry t s .result) ≡ false
-
-fits : (start : Phase) → credit (reads start) ≡ 0 → Fits (answer start)
-fits start c = record { count = count-bound start c; room = slots-suffice start c }
-
-pub events-fit : Fits smtpClient × Fits smtpServer × Fits pop3Server × Fits imapClient
-unfolding credit phaseCredit
-events-fit = (fits Phases.hello refl, fits Phases.reply refl, fits Phases.status refl, fits Phases.command refl)

@@ -12,10 +12,10 @@ use lib.ListN.{length, take, set, getD, length-set}
 use lib.Seq.{getD-take, getD-set-same, getD-set-other}
 use borrow.Author.Tests.{ltb-true}
 use Rattle.events.proofs.Laws.{store-is, store-front, keeps}
-use Rattle.events.specs.Table.{slots, store, Poured, full, pour, Final, finish}
+use Rattle.events.specs.Table.{slots, store, eventAt, Poured, full, pour, Final, finish}
 use Rattle.events.specs.declared.Event.{Event}
 use Rattle.events.specs.declared.Outcome.{Outcome}
-use Rattle.rules.specs.Secrecy.{eventAt, eventsIn, eventsOf}
+use Rattle.rules.specs.Secrecy.{eventsIn, eventsOf}
 
 -- ---- one store: its slot holds the event, the slots before it what they held
 module _ (t : List ℕ) (n : ℕ) (e : Event) where

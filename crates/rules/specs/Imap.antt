@@ -13,13 +13,13 @@ use Rattle.reading.specs.Bytes.{same}
 use Rattle.reading.specs.Reading.{clean, crlf}
 use Rattle.rules.specs.Machine.{Reaction}
 use Rattle.rules.specs.Mail.{onHead}
-use Rattle.rules.specs.Phases.{State, command, offered, then, stop, first}
+use Rattle.rules.specs.Phases.{State, command, offered, then, stop, ahead}
 use Rattle.rules.specs.declared.Mail.the-variants.{Imap}
 
 -- every clean line is listed; an append offers a mail of its size
 unfoldable pub onCommand : ℕ → List ℕ → Reaction State
 onCommand at l =
-    first (ev clientLine at (length (clean l)) Unsaid)
+    ahead (ev clientLine at (length (clean l)) Unsaid)
     (cond (isAppend (clean l)) (then [] (offered (appendSize (clean l)))) (then [] command))
 
 -- if the next line, only peeked at, holds a colon, a mail follows, and its header begins here; else the line is a command

@@ -16,7 +16,7 @@ use Rattle.reading.specs.Bytes.{same}
 use Rattle.reading.specs.Reading.{crlf}
 use Rattle.reading.specs.Text.{text}
 use Rattle.rules.specs.Machine.{Reaction}
-use Rattle.rules.specs.Phases.{State, reads, ends, then, stop, first}
+use Rattle.rules.specs.Phases.{Phase, State, reads, ends, then, stop, ahead}
 use Rattle.rules.specs.Phases as phase
 use Rattle.rules.specs.declared.Mail.{Mail}
 use Rattle.rules.specs.declared.Mail.the-variants.{Smtp, Pop3, Imap}
@@ -44,30 +44,34 @@ rest (Imap size start) to = size - (to - start)
 
 -- ---- a header's lines, up to and including a line of exactly CRLF
 
+-- a body starts, and the phase reads on
+abbrev pub starts : ℕ → Phase → Reaction State
+starts to ph = then (ev bodyStart to 0 Unsaid ∷ []) ph
+
 -- so many bytes of a literal behind its header, 0 being no read at all
 unfoldable pub literalBody : Encoding → ℕ → ℕ → Reaction State
 literalBody e to zero = then (ev bodyStart to 0 Unsaid ∷ ev bodyStop to 0 Unsaid ∷ []) phase.closing
-literalBody e to (suc n) = then (ev bodyStart to 0 Unsaid ∷ []) (phase.literal e n)
+literalBody e to (suc n) = starts to (phase.literal e n)
 
 -- no boundary, in a mail: lines until the dot line; in IMAP, size less header bytes, and 7 where that is below 0
 unfoldable pub plainMail : Mail → Encoding → ℕ → Reaction State
-plainMail Smtp e to = then (ev bodyStart to 0 Unsaid ∷ []) (phase.text Smtp e)
-plainMail Pop3 e to = then (ev bodyStart to 0 Unsaid ∷ []) (phase.text Pop3 e)
+plainMail Smtp e to = starts to (phase.text Smtp e)
+plainMail Pop3 e to = starts to (phase.text Pop3 e)
 plainMail (Imap size start) e to = cond (ltb size (to - start)) (stop [] SmallLiteral to) (literalBody e to (rest (Imap size start) to))
 
 -- no boundary: a mail, or a part of the innermost open multipart
-unfoldable pub plain : Mail → Encoding → List (List ℕ) → ℕ → Reaction State
-plain m e [] to = plainMail m e to
-plain m e (b ∷ os) to = then (ev bodyStart to 0 Unsaid ∷ []) (phase.content m e b os)
+unfoldable pub boundaryFree : Mail → Encoding → List (List ℕ) → ℕ → Reaction State
+boundaryFree m e [] to = plainMail m e to
+boundaryFree m e (b ∷ os) to = starts to (phase.content m e b os)
 
 -- behind the blank line: with a boundary a deeper multipart, of which there are eight
 unfoldable pub begun : Mail → Encoding → Option (List ℕ) → List (List ℕ) → ℕ → Reaction State
-begun m e none os to = plain m e os to
+begun m e none os to = boundaryFree m e os to
 begun m e (some b) os to = cond (leb levels (length os)) (stop [] TooDeep to) (then [] (phase.preamble m b os))
 
 unfoldable pub onHead : Mail → Known → List (List ℕ) → ℕ → List ℕ → Reaction State
 onHead m k os at l =
-    first (ev headerLine at (length l) Unsaid)
+    ahead (ev headerLine at (length l) Unsaid)
     (cond (same crlf l) (begun m (k .encoding) (k .boundary) os (at + length l)) (then [] (phase.head m (scanned k l) os)))
 
 -- ---- no boundary: lines until `.` CRLF; dots are not undoubled

@@ -81,5 +81,5 @@ abbrev pub stop : List Event → Outcome → ℕ → Reaction State
 stop es r p = record { events = es; next = ends r p }
 
 -- an event before a reaction
-abbrev pub first : Event → Reaction State → Reaction State
-first e re = record { events = e ∷ re .events; next = re .next }
+abbrev pub ahead : Event → Reaction State → Reaction State
+ahead e re = record { events = e ∷ re .events; next = re .next }

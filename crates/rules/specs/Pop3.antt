@@ -11,13 +11,13 @@ use Rattle.fields.specs.Common.{unknown}
 use Rattle.fields.specs.Pop3.{stlsAnswer, retrAnswer}
 use Rattle.reading.specs.Reading.{clean}
 use Rattle.rules.specs.Machine.{Reaction}
-use Rattle.rules.specs.Phases.{State, status, head, then, stop, first}
+use Rattle.rules.specs.Phases.{State, status, head, then, stop, ahead}
 use Rattle.rules.specs.declared.Mail.the-variants.{Pop3}
 
 -- every clean line is listed; a TLS answer: done; a retrieval: a mail follows
 unfoldable pub onStatus : ℕ → List ℕ → Reaction State
 onStatus at l =
-    first (ev serverLine at (length (clean l)) Unsaid)
+    ahead (ev serverLine at (length (clean l)) Unsaid)
     (cond (stlsAnswer (clean l)) (stop [] Done (at + length l))
     (cond (retrAnswer (clean l)) (then [] (head Pop3 unknown []))
     (then [] status)))

@@ -3,11 +3,11 @@
 use mathlib.Core.Path.{_≡_}
 use mathlib.Core.Bool.{Bool, true, not, _&&_, _||_}
 use mathlib.Core.List.{List, [], _∷_}
-use Prim.Native.Nat.{ℕ, zero, suc, _+_, _*_, _<_}
+use Prim.Native.Nat.{ℕ, zero, suc, _+_, _<_}
 use lib.Dec.{eqb, leb, ltb}
 use lib.ListN.{length, getD}
-use Rattle.events.specs.Events.{width, bodyLine, sizedBody, user, password}
-use Rattle.events.specs.Table.{Final}
+use Rattle.events.specs.Events.{bodyLine, sizedBody, user, password}
+use Rattle.events.specs.Table.{Final, eventAt}
 use Rattle.events.specs.declared.Event.{Event}
 
 -- the place p lies inside an event
@@ -15,8 +15,8 @@ unfoldable pub inside : Event → ℕ → Bool
 inside e p = leb (e .offset) p && ltb p (e .offset + e .length)
 
 -- neither CR nor LF
-unfoldable pub plain : ℕ → Bool
-plain b = not (eqb b 13) && not (eqb b 10)
+unfoldable pub noLineEnd : ℕ → Bool
+noLineEnd b = not (eqb b 13) && not (eqb b 10)
 
 abbrev pub dot : ℕ
 dot = 46
@@ -25,7 +25,7 @@ dot = 46
 -- brought in; in a sized body any byte may become any
 unfoldable pub mayTurn : ℕ → ℕ → ℕ → Bool
 mayTurn kind b c =
-    ((eqb kind user || (eqb kind password || eqb kind bodyLine)) && (plain b && (plain c && not (eqb c dot))))
+    ((eqb kind user || (eqb kind password || eqb kind bodyLine)) && (noLineEnd b && (noLineEnd c && not (eqb c dot))))
     || eqb kind sizedBody
 
 -- at the place p the byte b may become c: it stays, or p lies inside an event that allows it
@@ -39,14 +39,6 @@ pub record Replaced (es : List Event) (at : ℕ) (s u : List ℕ) : Type 0 where
   pub bytes : (p : ℕ) → p < length s → may es (at + p) (getD s p 0) (getD u p 0) ≡ true
 
 -- ---- the events that an answer gives: those in its table
-unfoldable pub eventAt : List ℕ → ℕ → Event
-eventAt t i =
-    record {
-      kind = getD t (i * width) 0;
-      offset = getD t (i * width + 1) 0;
-      length = getD t (i * width + 2) 0;
-      encoding = getD t (i * width + 3) 0;
-    }
 
 -- n events from slot i on
 unfoldable pub eventsIn : List ℕ → ℕ → ℕ → List Event

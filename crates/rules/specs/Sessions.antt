@@ -16,6 +16,8 @@ use Rattle.rules.specs.Phases.{Phase, State, reads, ends, need, stop}
 use Rattle.rules.specs.Pop3.{onStatus}
 use Rattle.rules.specs.Smtp.{onHello, onSecond, onUser, onPassword, onSender, onSeeking, onRecipient, onReply}
 use Rattle.rules.specs.Phases
+use Rattle.rules.specs.declared.Entry.{Entry}
+use Rattle.rules.specs.declared.Entry.the-variants.{SmtpClient, SmtpServer, Pop3Server, ImapClient}
 
 -- what each phase does with the piece l that begins at `at`
 unfoldable pub reacts : Phase → ℕ → List ℕ → Reaction State
@@ -68,15 +70,27 @@ limit = 16777216
 unfoldable pub answer : Phase → List ℕ → List ℕ → Final
 answer start t s = cond (ltb limit (length s)) (final t TooLong 0 0) (settle t 0 (session (reads start) 0 s))
 
--- the four entries
+-- ---- the four entries
+
+-- where each begins
+abbrev pub startOf : Entry → Phase
+startOf SmtpClient = Phases.hello
+startOf SmtpServer = Phases.reply
+startOf Pop3Server = Phases.status
+startOf ImapClient = Phases.command
+
+-- what each answers, on a table and a session
+abbrev pub answerOf : Entry → List ℕ → List ℕ → Final
+answerOf e = answer (startOf e)
+
 abbrev pub smtpClient : List ℕ → List ℕ → Final
-smtpClient = answer Phases.hello
+smtpClient = answerOf SmtpClient
 
 abbrev pub smtpServer : List ℕ → List ℕ → Final
-smtpServer = answer Phases.reply
+smtpServer = answerOf SmtpServer
 
 abbrev pub pop3Server : List ℕ → List ℕ → Final
-pop3Server = answer Phases.status
+pop3Server = answerOf Pop3Server
 
 abbrev pub imapClient : List ℕ → List ℕ → Final
-imapClient = answer Phases.command
+imapClient = answerOf ImapClient

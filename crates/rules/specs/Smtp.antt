@@ -19,7 +19,7 @@ use Rattle.reading.specs.Bytes.{startsWith}
 use Rattle.reading.specs.Reading.{clean}
 use Rattle.reading.specs.Text.{text}
 use Rattle.rules.specs.Machine.{Reaction}
-use Rattle.rules.specs.Phases.{State, second, user, password, sender, seeking, recipient, reply, head, then, stop, first}
+use Rattle.rules.specs.Phases.{State, second, user, password, sender, seeking, recipient, reply, head, then, stop, ahead}
 use Rattle.rules.specs.declared.Mail.the-variants.{Smtp}
 
 -- ---- the client
@@ -70,5 +70,5 @@ onRecipient at l = cond (isData (clean l)) (then [] (head Smtp unknown [])) (byR
 -- ---- the server: every clean line is listed, until one begins 221
 unfoldable pub onReply : ℕ → List ℕ → Reaction State
 onReply at l =
-    first (ev event.serverLine at (length (clean l)) Unsaid)
+    ahead (ev event.serverLine at (length (clean l)) Unsaid)
     (cond (startsWith (text "221") (clean l)) (stop [] Done (at + length l)) (then [] reply))

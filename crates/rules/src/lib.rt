@@ -1,6 +1,14 @@
-// Whose mail a walk is in. What the rules of the sessions are stands in specs/: definition and code share this type.
+// Types that the definition of the sessions shares with the code. What the rules are stands in specs/.
 
-// Of an IMAP client's mail the literal's size, and where the mail's header began.
+// Which side of which protocol a session's bytes are.
+pub enum Entry {
+    SmtpClient,
+    SmtpServer,
+    Pop3Server,
+    ImapClient,
+}
+
+// Whose mail a walk is in; of an IMAP client's the literal's size, and where the mail's header began.
 pub enum Mail {
     Smtp,
     Pop3,

@@ -22,9 +22,9 @@ use Rattle.rules.specs.Mail.{begun, onHead}
 use Rattle.rules.specs.Phases.{State, reads, head, wants, then}
 use Rattle.rules.specs.Sessions.{reacts, session, settle}
 use Rattle.sessions.specs.Walks.{Stopped, Ends, Stops, Notes, Headers}
-use Rattle.sessions.specs.declared.common.Headed.the-variants as headed
+use Rattle.sessions.specs.declared.header.Headed.the-variants as headed
 use Rattle.rules.specs.declared.Mail.{Mail}
-use Rattle.sessions.specs.declared.common.Noted.the-variants as noted
+use Rattle.sessions.specs.declared.reads.Noted.the-variants as noted
 use Rattle.sessions.proofs.Readings.{turn}
 
 abbrev pub blank : Scan

@@ -21,12 +21,12 @@ use Rattle.rules.specs.Mail.{dotLine, hyphens, afterMail, rest, literalBody, he
 use Rattle.rules.specs.Phases.{Phase, State, reads, wants, then, stop, closing, head, text, literal, opened, content, between, skipping, resting}
 use Rattle.rules.specs.Sessions.{reacts}
 use Rattle.sessions.specs.Walks.{Ends, Stopped, Pair, NoPair, Notes, goes, Walks, piece, Lies, Begun}
-use Rattle.sessions.specs.declared.common.Boundary.{Boundary}
+use Rattle.sessions.specs.declared.reads.Boundary.{Boundary}
 use Rattle.rules.specs.declared.Mail.{Mail}
 use Rattle.rules.specs.declared.Mail.the-variants.{Smtp, Pop3, Imap}
-use Rattle.sessions.specs.declared.common.Noted.the-variants as noted
-use Rattle.sessions.specs.declared.common.Walk.{Walk}
-use Rattle.sessions.specs.declared.common.Walk.the-variants as walk
+use Rattle.sessions.specs.declared.reads.Noted.the-variants as noted
+use Rattle.sessions.specs.declared.reads.Walk.{Walk}
+use Rattle.sessions.specs.declared.reads.Walk.the-variants as walk
 use Rattle.sessions.proofs.Readings.{piece-length}
 use Rattle.sessions.proofs.Steps as steps
 

@@ -19,17 +19,17 @@ use Rattle.fields.specs.Common.{unknown, bdryBytes}
 use Rattle.fields.specs.declared.common.Bdry.the-variants.{Unsupplied, Of}
 use Rattle.fields.specs.declared.common.Scan.{Scan}
 use Rattle.rules.specs.Machine.{Reaction}
-use Rattle.rules.specs.Mail.{afterMail, plainMail, plain, begun, outermost, popped, skip, onPreamble}
+use Rattle.rules.specs.Mail.{afterMail, plainMail, boundaryFree, begun, outermost, popped, skip, onPreamble}
 use Rattle.rules.specs.Phases.{State, reads, head, content, preamble, opened, then}
 use Rattle.rules.specs.Sessions.{reacts, session, settle}
 use Rattle.sessions.specs.Walks.{Stopped, under, walkLeft, Moved, Walks, Headers, piece, Lies, Within, partedLeft, MovedPart, Parts, Inner}
-use Rattle.sessions.specs.declared.common.Boundary.{Boundary}
-use Rattle.sessions.specs.declared.common.Headed.the-variants as headed
+use Rattle.sessions.specs.declared.reads.Boundary.{Boundary}
+use Rattle.sessions.specs.declared.header.Headed.the-variants as headed
 use Rattle.rules.specs.declared.Mail.{Mail}
-use Rattle.sessions.specs.declared.common.Parted.{Parted}
-use Rattle.sessions.specs.declared.common.Parted.the-variants as parted
-use Rattle.sessions.specs.declared.common.Walk.{Walk}
-use Rattle.sessions.specs.declared.common.Walk.the-variants as walk
+use Rattle.sessions.specs.declared.multi.Parted.{Parted}
+use Rattle.sessions.specs.declared.multi.Parted.the-variants as parted
+use Rattle.sessions.specs.declared.reads.Walk.{Walk}
+use Rattle.sessions.specs.declared.reads.Walk.the-variants as walk
 use Rattle.sessions.proofs.Readings.{ended}
 use Rattle.sessions.proofs.Steps.{further}
 
@@ -111,7 +111,7 @@ module _ (s : List ℕ) {t : List ℕ} {log : Log} {at : ℕ} {u : List ℕ} whe
 
     -- no boundary, in a mail
     pub head-plain : {to : ℕ → State} {r : Walk} {v : List ℕ} (m : Mail) → k .boundary ≡ Unsupplied → Walks s u n (at + e) (plainMail m (k .encoding) (at + e)) to r v → Walks s t log at (then [] (head m unknown [])) to r v
-    unfolding begun plain
+    unfolding begun boundaryFree
     head-plain {r = r} m q w = record { moved = further s at (at + e) r (omega arith) (w .moved); is = w .is ∙ head-is m [] none (none-is q) }
 
     -- a boundary, in a mail: the first level
@@ -127,7 +127,7 @@ module _ (s : List ℕ) {t : List ℕ} {log : Log} {at : ℕ} {u : List ℕ} whe
     pub part-plain : {r : Parted} {v : List ℕ} {Fits : List (List ℕ) → Type 0} (m : Mail) (b : List ℕ) → k .boundary ≡ Unsupplied
         → Parts s u n (at + e) m b (λ os. then (ev bodyStart (at + e) 0 Unsaid ∷ []) (content m (k .encoding) b os)) (λ os. Unit {0}) r v
         → Parts s t log at m b (λ os. then [] (head m unknown (b ∷ os))) Fits r v
-    unfolding begun plain
+    unfolding begun boundaryFree
     part-plain {r} m b q w = record { moved = further-part s at (at + e) r (omega arith) (w .moved); is = λ os f. w .is os tt ∙ head-is m (b ∷ os) none (none-is q) }
 
     module _ (m : Mail) (b outer : Boundary) (levels o l : ℕ) (q : k .boundary ≡ Of o l) where

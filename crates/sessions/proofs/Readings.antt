@@ -25,7 +25,7 @@ use Rattle.rules.specs.Machine.{Ran, before}
 use Rattle.rules.specs.Phases.{Phase, State, reads, ends, wants, need}
 use Rattle.rules.specs.Sessions.{reacts, react, session, resultOf, placeOf, settle}
 use Rattle.sessions.specs.Walks.{Ends, Stops, under, piece, Lies}
-use Rattle.sessions.specs.declared.common.Boundary.{Boundary}
+use Rattle.sessions.specs.declared.reads.Boundary.{Boundary}
 use Rattle.rules.proofs.Machines.{run-short, run-got}
 
 -- ---- a read, by how far it reaches

@@ -25,11 +25,11 @@ use Rattle.reading.specs.declared.Place.the-variants.{At, Nowhere}
 use Rattle.rules.specs.Phases.{State, hello, second, user, password, sender, seeking, recipient, reply, head, then, wants}
 use Rattle.rules.specs.Sessions.{reacts}
 use Rattle.rules.specs.Smtp.{onHello, tried, bySecond, onSecond, onUser, onPassword, onSender, onSeeking, byRecipient, onRecipient, onReply}
-use Rattle.sessions.specs.Walks.{Ends, Stopped, Walks, Lists, LinedTo, LinedStop}
+use Rattle.sessions.specs.Walks.{Ends, Cleaned, Stopped, Walks, Lists, LinedTo, LinedStop}
 use Rattle.rules.specs.declared.Mail.the-variants.{Smtp}
-use Rattle.sessions.specs.declared.common.Walk.{Walk}
-use Rattle.sessions.specs.declared.common.Walk.the-variants as walk
-use Rattle.sessions.proofs.Lines.{clean-part, line-on, line-stop}
+use Rattle.sessions.specs.declared.reads.Walk.{Walk}
+use Rattle.sessions.specs.declared.reads.Walk.the-variants as walk
+use Rattle.sessions.proofs.Lines.{line-on, line-stop}
 use Rattle.sessions.proofs.Steps.{stop, read}
 
 -- ---- an address lies inside its line
@@ -76,44 +76,44 @@ module _ {s t : List ℕ} {log : Log} {to : ℕ → State} where
   unfolding reacts onHello wants
   hello-not {e} d h w = let k : e - 0 ≡ e = omega arith in read hello d (rw (k, h) (stop w))
 
--- ---- a line from `at` up to e, whose clean part is of n bytes
-module _ {s : List ℕ} {at e n : ℕ} (d : Ends aLine s at e) (c : n ≡ length (clean (part s at e))) {t : List ℕ} {log : Log} {to : ℕ → State} where
-  pub second-tls : {a : Answer} → secondLine (part s at (at + n)) ≡ is.StartTls → Stopped StartTls at log a → Walks s t log at (then [] second) to (walk.Stopped a) t
+-- ---- a line from `at` up to e, whose clean part ends at `end`
+module _ {s : List ℕ} {at end e : ℕ} (d : Cleaned s at end e) {t : List ℕ} {log : Log} {to : ℕ → State} where
+  pub second-tls : {a : Answer} → secondLine (part s at end) ≡ is.StartTls → Stopped StartTls at log a → Walks s t log at (then [] second) to (walk.Stopped a) t
   unfolding reacts onSecond bySecond wants
-  second-tls h w = read second d (rw (← (clean-part d c), h) (stop w))
+  second-tls h w = read second (d .ends) (rw (← (d .is), h) (stop w))
 
   module _ {r : Walk} {u : List ℕ} where
-    pub second-login : secondLine (part s at (at + n)) ≡ is.AuthLogin → Walks s t log e (then [] user) to r u → Walks s t log at (then [] second) to r u
+    pub second-login : secondLine (part s at end) ≡ is.AuthLogin → Walks s t log e (then [] user) to r u → Walks s t log at (then [] second) to r u
     unfolding reacts onSecond bySecond wants
-    second-login h w = read second d (rw (← (clean-part d c), h) w)
+    second-login h w = read second (d .ends) (rw (← (d .is), h) w)
 
-    pub second-from : secondLine (part s at (at + n)) ≡ is.MailFrom → Walks s t log e (tried at (part s at (at + n))) to r u → Walks s t log at (then [] second) to r u
+    pub second-from : secondLine (part s at end) ≡ is.MailFrom → Walks s t log e (tried at (part s at end)) to r u → Walks s t log at (then [] second) to r u
     unfolding reacts onSecond bySecond wants
-    second-from h w = read second d (rw (← (clean-part d c), h) w)
+    second-from h w = read second (d .ends) (rw (← (d .is), h) w)
 
-    pub second-other : secondLine (part s at (at + n)) ≡ is.Other → Walks s t log e (then [] seeking) to r u → Walks s t log at (then [] second) to r u
+    pub second-other : secondLine (part s at end) ≡ is.Other → Walks s t log e (then [] seeking) to r u → Walks s t log at (then [] second) to r u
     unfolding reacts onSecond bySecond wants
-    second-other h w = read second d (rw (← (clean-part d c), h) w)
+    second-other h w = read second (d .ends) (rw (← (d .is), h) w)
 
-    pub sender-tried : Walks s t log e (tried at (part s at (at + n))) to r u → Walks s t log at (then [] sender) to r u
+    pub sender-tried : Walks s t log e (tried at (part s at end)) to r u → Walks s t log at (then [] sender) to r u
     unfolding reacts onSender wants
-    sender-tried w = read sender d (rw (← (clean-part d c)) w)
+    sender-tried w = read sender (d .ends) (rw (← (d .is)) w)
 
-    pub seeking-found : isMailFrom (part s at (at + n)) ≡ true → Walks s t log e (tried at (part s at (at + n))) to r u → Walks s t log at (then [] seeking) to r u
+    pub seeking-found : isMailFrom (part s at end) ≡ true → Walks s t log e (tried at (part s at end)) to r u → Walks s t log at (then [] seeking) to r u
     unfolding reacts onSeeking wants
-    seeking-found h w = read seeking d (rw (← (clean-part d c), h) w)
+    seeking-found h w = read seeking (d .ends) (rw (← (d .is), h) w)
 
-    pub seeking-on : isMailFrom (part s at (at + n)) ≡ false → Walks s t log e (then [] seeking) to r u → Walks s t log at (then [] seeking) to r u
+    pub seeking-on : isMailFrom (part s at end) ≡ false → Walks s t log e (then [] seeking) to r u → Walks s t log at (then [] seeking) to r u
     unfolding reacts onSeeking wants
-    seeking-on h w = read seeking d (rw (← (clean-part d c), h) w)
+    seeking-on h w = read seeking (d .ends) (rw (← (d .is), h) w)
 
-    pub recipient-data : isData (part s at (at + n)) ≡ true → Walks s t log e (then [] (head Smtp unknown [])) to r u → Walks s t log at (then [] recipient) to r u
+    pub recipient-data : isData (part s at end) ≡ true → Walks s t log e (then [] (head Smtp unknown [])) to r u → Walks s t log at (then [] recipient) to r u
     unfolding reacts onRecipient wants
-    recipient-data h w = read recipient d (rw (← (clean-part d c), h) w)
+    recipient-data h w = read recipient (d .ends) (rw (← (d .is), h) w)
 
-    pub recipient-line : isData (part s at (at + n)) ≡ false → Walks s t log e (byRecipient at (rcptTo (part s at (at + n)))) to r u → Walks s t log at (then [] recipient) to r u
+    pub recipient-line : isData (part s at end) ≡ false → Walks s t log e (byRecipient at (rcptTo (part s at end))) to r u → Walks s t log at (then [] recipient) to r u
     unfolding reacts onRecipient wants
-    recipient-line h w = read recipient d (rw (← (clean-part d c), h) w)
+    recipient-line h w = read recipient (d .ends) (rw (← (d .is), h) w)
 
 -- ---- lines listed
 user-lists : (at : ℕ) → Lists event.user at user
@@ -150,11 +150,11 @@ module _ {s t : List ℕ} {log : Log} {at : ℕ} {to : ℕ → State} {u : List 
     pub reply-on : {r : Walk} {v : List ℕ} → LinedTo s t log at event.serverLine end e next u → startsWith (text "221") (part s at end) ≡ false
         → Walks s u next e (then [] reply) to r v → Walks s t log at (then [] reply) to r v
     unfolding reply-lists reacts onReply
-    reply-on d h w = line-on (reply-lists at) d (rw (← (d .clean), h) w)
+    reply-on d h w = line-on (reply-lists at) d (rw (← (d .line .is), h) w)
 
     pub reply-last : {a : Answer} → LinedTo s t log at event.serverLine end e next u → startsWith (text "221") (part s at end) ≡ true
         → Stopped Done e next a → Walks s t log at (then [] reply) to (walk.Stopped a) u
     unfolding reply-lists reacts onReply
     reply-last d h w =
-        let k : at + length (part s at e) ≡ e = omega (arith, d .ends .long, d .ends .on) in
-        line-on (reply-lists at) d (rw (← (d .clean), h, k) (stop w))
+        let k : at + length (part s at e) ≡ e = omega (arith, d .line .ends .long, d .line .ends .on) in
+        line-on (reply-lists at) d (rw (← (d .line .is), h, k) (stop w))

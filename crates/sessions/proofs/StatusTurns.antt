@@ -3,7 +3,7 @@
 use mathlib.Core.Path.{_≡_, refl, sym, ap, _∙_}
 use mathlib.Core.Bool.{true, false}
 use mathlib.Core.List.{List, []}
-use Prim.Native.Nat.{ℕ, _+_, _-_, _≤_, _<_}
+use Prim.Native.Nat.{ℕ, _+_, _≤_, _<_}
 use native.Mathlib.Omega.{arith}
 use lib.ListN.{length, drop}
 use Rattle.events.specs.Events.{serverLine, clientLine}
@@ -23,8 +23,8 @@ use Rattle.rules.specs.Pop3.{onStatus}
 use Rattle.rules.specs.Sessions.{reacts, session, settle}
 use Rattle.sessions.specs.Walks.{Stopped, Ends, Pair, NoPair, Walks, Lists, LinedTo, LinedStop, Moved, Farther, Turns}
 use Rattle.rules.specs.declared.Mail.the-variants.{Pop3, Imap}
-use Rattle.sessions.specs.declared.common.Walk.{Walk}
-use Rattle.sessions.specs.declared.common.Walk.the-variants as walk
+use Rattle.sessions.specs.declared.reads.Walk.{Walk}
+use Rattle.sessions.specs.declared.reads.Walk.the-variants as walk
 use Rattle.sessions.proofs.Lines.{line-on, line-stop}
 use Rattle.sessions.proofs.Readings.{turn}
 use Rattle.sessions.proofs.Steps as steps
@@ -48,20 +48,20 @@ module _ {s t : List ℕ} {log : Log} {at : ℕ} {u : List ℕ} where
 
   module _ {end e : ℕ} {next : Log} (d : LinedTo s t log at serverLine end e next u) where
     behind : at + length (part s at e) ≡ e
-    behind = omega (arith, d .ends .long, d .ends .on)
+    behind = omega (arith, d .line .ends .long, d .line .ends .on)
 
     pub status-tls : {a : Answer} → stlsAnswer (part s at end) ≡ true → Stopped Done e next a → Turns s t log at status (walk.Stopped a) u
     unfolding status-lists reacts onStatus
-    status-tls h w = record { walks = line-on (status-lists at) d (rw (← (d .clean), h, behind) (steps.stop w)); farther = tt }
+    status-tls h w = record { walks = line-on (status-lists at) d (rw (← (d .line .is), h, behind) (steps.stop w)); farther = tt }
 
     pub status-mail : {r : Walk} {v : List ℕ} → stlsAnswer (part s at end) ≡ false → retrAnswer (part s at end) ≡ true
         → Walks s u next e (then [] (head Pop3 unknown [])) (λ p. reads status) r v → Turns s t log at status r v
     unfolding status-lists reacts onStatus
-    status-mail {r} h g w = record { walks = line-on (status-lists at) d (rw (← (d .clean), h, g) w); farther = farther s at e r (d .ends .on) (w .moved) }
+    status-mail {r} h g w = record { walks = line-on (status-lists at) d (rw (← (d .line .is), h, g) w); farther = farther s at e r (d .line .ends .on) (w .moved) }
 
     pub status-on : stlsAnswer (part s at end) ≡ false → retrAnswer (part s at end) ≡ false → Turns s t log at status (walk.Went e next) u
     unfolding status-lists reacts onStatus
-    status-on h g = record { walks = line-on (status-lists at) d (rw (← (d .clean), h, g) (steps.here e (d .ends .within))); farther = d .ends .on }
+    status-on h g = record { walks = line-on (status-lists at) d (rw (← (d .line .is), h, g) (steps.here e (d .line .ends .within))); farther = d .line .ends .on }
 
 -- ---- IMAP
 command-lists : (at : ℕ) → Lists clientLine at command
@@ -76,11 +76,11 @@ module _ {s t : List ℕ} {log : Log} {at : ℕ} {u : List ℕ} where
     pub command-append : {r : Walk} {v : List ℕ} {n : ℕ} → isAppend (part s at end) ≡ true → n ≡ appendSize (part s at end)
         → Walks s u next e (then [] (offered n)) (λ p. reads command) r v → Turns s t log at command r v
     unfolding command-lists reacts onCommand
-    command-append {r} h g w = record { walks = line-on (command-lists at) d (rw (← (d .clean), h, ← g) w); farther = farther s at e r (d .ends .on) (w .moved) }
+    command-append {r} h g w = record { walks = line-on (command-lists at) d (rw (← (d .line .is), h, ← g) w); farther = farther s at e r (d .line .ends .on) (w .moved) }
 
     pub command-on : isAppend (part s at end) ≡ false → Turns s t log at command (walk.Went e next) u
     unfolding command-lists reacts onCommand
-    command-on h = record { walks = line-on (command-lists at) d (rw (← (d .clean), h) (steps.here e (d .ends .within))); farther = d .ends .on }
+    command-on h = record { walks = line-on (command-lists at) d (rw (← (d .line .is), h) (steps.here e (d .line .ends .within))); farther = d .line .ends .on }
 
 -- a line that is only peeked at: what holds a colon is a header's, any other a command
 module _ {s : List ℕ} {at e : ℕ} (d : Ends aLine s at e) (size : ℕ) where

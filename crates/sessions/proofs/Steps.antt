@@ -15,9 +15,9 @@ use Rattle.rules.specs.Machine.{Reaction}
 use Rattle.rules.specs.Phases.{Phase, State, reads, ends, wants}
 use Rattle.rules.specs.Sessions.{reacts, session, settle}
 use Rattle.sessions.specs.Walks.{Ends, Stops, Notes, goes, under, Moved, Stopped, Walks}
-use Rattle.sessions.specs.declared.common.Noted.the-variants as noted
-use Rattle.sessions.specs.declared.common.Walk.{Walk}
-use Rattle.sessions.specs.declared.common.Walk.the-variants as walk
+use Rattle.sessions.specs.declared.reads.Noted.the-variants as noted
+use Rattle.sessions.specs.declared.reads.Walk.{Walk}
+use Rattle.sessions.specs.declared.reads.Walk.the-variants as walk
 use Rattle.sessions.proofs.Readings.{turn, ended}
 
 pub further : (s : List ℕ) (i j : ℕ) (r : Walk) → i ≤ j → Moved s j r → Moved s i r

@@ -1,4 +1,4 @@
--- What the answers of the walks say: what is left to do. Of these the entries' contracts use `finalOf` alone.
+-- What the answers of the walks say: what is left to do. The entries' contracts use none of it.
 -- Assumes nothing.
 use mathlib.Core.Path.{_≡_}
 use mathlib.Core.Bool.{false}
@@ -6,8 +6,9 @@ use mathlib.Core.List.{List, [], _∷_}
 use Prim.Native.Nat.{ℕ, _+_, _-_, _≤_, _<_}
 use lib.ListN.{length, take, drop}
 use Rattle.events.specs.Events.{ev}
-use Rattle.events.specs.Table.{Final, final}
+use Rattle.events.specs.Table.{Final, final, finalOf}
 use Rattle.events.specs.declared.Answer.{Answer}
+use Rattle.events.specs.declared.Encoding.{Encoding}
 use Rattle.events.specs.declared.Encoding.the-variants.{Unsaid}
 use Rattle.events.specs.declared.Event.{Event}
 use Rattle.events.specs.declared.Log.{Log}
@@ -16,30 +17,28 @@ use Rattle.fields.specs.Common.{part, unknown, bdryBytes, Inside}
 use Rattle.reading.specs.Bytes.{same}
 use Rattle.reading.specs.Reading.{Need, aLine, two, crlf, clean, got, fetch}
 use Rattle.rules.specs.Machine.{Reaction, Ran, before}
-use Rattle.rules.specs.Mail.{hyphens, begun, skip, outermost}
-use Rattle.rules.specs.Phases.{Phase, State, reads, head, wants}
+use Rattle.rules.specs.Mail.{hyphens, starts, begun, skip, outermost, popped}
+use Rattle.rules.specs.Phases.{Phase, State, reads, head, preamble, content, between, then, wants}
 use Rattle.rules.specs.Sessions.{reacts, session, settle}
-use Rattle.sessions.specs.declared.common.Boundary.{Boundary}
-use Rattle.sessions.specs.declared.common.Headed.{Headed}
-use Rattle.sessions.specs.declared.common.Headed.the-variants as headed
-use Rattle.sessions.specs.declared.common.Lined.{Lined}
-use Rattle.sessions.specs.declared.common.Lined.the-variants as lined
+use Rattle.sessions.specs.declared.reads.Boundary.{Boundary}
+use Rattle.sessions.specs.declared.reads.Clean.{Clean}
+use Rattle.sessions.specs.declared.reads.Clean.the-variants as clean-line
+use Rattle.sessions.specs.declared.header.Headed.{Headed}
+use Rattle.sessions.specs.declared.header.Headed.the-variants as headed
+use Rattle.sessions.specs.declared.reads.Lined.{Lined}
+use Rattle.sessions.specs.declared.reads.Lined.the-variants as lined
 use Rattle.rules.specs.declared.Mail.{Mail}
 use Rattle.rules.specs.declared.Mail.the-variants.{Smtp, Pop3, Imap}
-use Rattle.sessions.specs.declared.common.Noted.{Noted}
-use Rattle.sessions.specs.declared.common.Noted.the-variants as noted
-use Rattle.sessions.specs.declared.common.Parted.{Parted}
-use Rattle.sessions.specs.declared.common.Parted.the-variants as parted
-use Rattle.sessions.specs.declared.common.Read.{Read}
-use Rattle.sessions.specs.declared.common.Read.the-variants as read
-use Rattle.sessions.specs.declared.common.Two.{Two}
-use Rattle.sessions.specs.declared.common.Two.the-variants as pair
-use Rattle.sessions.specs.declared.common.Walk.{Walk}
-use Rattle.sessions.specs.declared.common.Walk.the-variants as walk
-
--- an answer and the table then
-abbrev pub finalOf : List ℕ → Answer → Final
-finalOf u a = final u (a .result) (a .place) (a .count)
+use Rattle.sessions.specs.declared.reads.Noted.{Noted}
+use Rattle.sessions.specs.declared.reads.Noted.the-variants as noted
+use Rattle.sessions.specs.declared.multi.Parted.{Parted}
+use Rattle.sessions.specs.declared.multi.Parted.the-variants as parted
+use Rattle.sessions.specs.declared.reads.Read.{Read}
+use Rattle.sessions.specs.declared.reads.Read.the-variants as read
+use Rattle.sessions.specs.declared.reads.Two.{Two}
+use Rattle.sessions.specs.declared.reads.Two.the-variants as pair
+use Rattle.sessions.specs.declared.reads.Walk.{Walk}
+use Rattle.sessions.specs.declared.reads.Walk.the-variants as walk
 
 -- an answer with this result and place, and the events so far
 pub record Stopped (o : Outcome) (p : ℕ) (log : Log) (a : Answer) : Type 0 where
@@ -63,6 +62,17 @@ pub record Stops (nd : Need) (s : List ℕ) (i : ℕ) (o : Outcome) : Type 0 whe
 abbrev pub ReadIs : Need → List ℕ → ℕ → Read → Type 0
 ReadIs nd s i (read.To j) = Ends nd s i j
 ReadIs nd s i (read.Stop o) = Stops nd s i o
+
+-- a line from i up to j, whose clean part ends at `end`
+pub record Cleaned (s : List ℕ) (i end j : ℕ) : Type 0 where
+  pub ends : Ends aLine s i j
+  pub from : i ≤ end
+  pub within : end ≤ j
+  pub is : part s i end ≡ clean (part s i j)
+
+abbrev pub CleanIs : List ℕ → ℕ → Clean → Type 0
+CleanIs s i (clean-line.To end j) = Cleaned s i end j
+CleanIs s i (clean-line.Stop o) = Stops aLine s i o
 
 pub record Pair (s : List ℕ) (i : ℕ) (l : List ℕ) : Type 0 where
   pub ends : Ends two s i (i + 2)
@@ -126,12 +136,14 @@ pub record Lists (kind at : ℕ) (ph : Phase) : Type 0 where
   pub behind : List ℕ → List Event
   pub is : (l : List ℕ) → reacts ph at l .events ≡ ev kind at (length (clean l)) Unsaid ∷ behind l
 
+-- what the phase does with the line l, its event apart
+abbrev pub apart : {kind at : ℕ} {ph : Phase} → Lists kind at ph → List ℕ → Reaction State
+apart {kind} {at} {ph} h l = record { events = h .behind l; next = reacts ph at l .next }
+
 pub record LinedTo (s t : List ℕ) (log : Log) (at kind end to : ℕ) (next : Log) (u : List ℕ) : Type 0 where
-  pub ends : Ends aLine s at to
-  pub from : at ≤ end
-  pub within : end ≤ to
-  pub clean : part s at end ≡ clean (part s at to)
-  pub is : (ph : Phase) (h : Lists kind at ph) → settle u (next .count) (under (record { events = h .behind (part s at to); next = reacts ph at (part s at to) .next }) to (drop to s)) ≡ settle t (log .count) (session (reads ph) at (drop at s))
+  pub line : Cleaned s at end to
+  pub is : (ph : Phase) (h : Lists kind at ph)
+      → settle u (next .count) (under (apart h (part s at to)) to (drop to s)) ≡ settle t (log .count) (session (reads ph) at (drop at s))
 
 pub record LinedStop (s t : List ℕ) (log : Log) (at kind : ℕ) (a : Answer) (u : List ℕ) : Type 0 where
   pub is : (ph : Phase) → Lists kind at ph → finalOf u a ≡ settle t (log .count) (session (reads ph) at (drop at s))
@@ -139,6 +151,10 @@ pub record LinedStop (s t : List ℕ) (log : Log) (at kind : ℕ) (a : Answer) (
 abbrev pub LinedIs : List ℕ → List ℕ → Log → ℕ → ℕ → Lined → List ℕ → Type 0
 LinedIs s t log at kind (lined.To end to next) u = LinedTo s t log at kind end to next u
 LinedIs s t log at kind (lined.Stopped a) u = LinedStop s t log at kind a u
+
+-- events go into the table and reading goes on at `to`, whatever session and state that is
+abbrev pub Adds : List ℕ → Log → List Event → ℕ → Walk → List ℕ → Type 0
+Adds t log es to r u = (s : List ℕ) (st : ℕ → State) → to ≤ length s → Walks s t log to (record { events = es; next = st to }) st r u
 
 -- ---- headers: h is the buffer from the header's first byte on, the session's byte `base`
 
@@ -184,11 +200,41 @@ MovedPart s at (parted.Next p log) = (at < p) × (p ≤ length s)
 MovedPart s at (parted.Closed p log) = (at < p) × (p ≤ length s)
 MovedPart s at (parted.Stopped a) = Unit {0}
 
-pub record Parts (s t : List ℕ) (log : Log) (at : ℕ) (m : Mail) (b : List ℕ) (from : List (List ℕ) → Reaction State) (Fits : List (List ℕ) → Type 0) (r : Parted) (u : List ℕ) : Type 0 where
+-- from a reaction under way inside the open boundaries os, where they are such as is asked
+pub record Parts (s t : List ℕ) (log : Log) (at : ℕ) (m : Mail) (b : List ℕ)
+    (from : List (List ℕ) → Reaction State) (Asked : List (List ℕ) → Type 0) (r : Parted) (u : List ℕ) : Type 0 where
   pub moved : MovedPart s at r
-  pub is : (os : List (List ℕ)) → Fits os → partedLeft s u m b os r ≡ settle t (log .count) (under (from os) at (drop at s))
+  pub is : (os : List (List ℕ)) → Asked os → partedLeft s u m b os r ≡ settle t (log .count) (under (from os) at (drop at s))
 
--- a walk inside the open boundaries os
-pub record Inner (s t : List ℕ) (log : Log) (at : ℕ) (from : List (List ℕ) → Reaction State) (to : List (List ℕ) → ℕ → State) (Fits : List (List ℕ) → Type 0) (r : Walk) (u : List ℕ) : Type 0 where
+pub record Inner (s t : List ℕ) (log : Log) (at : ℕ)
+    (from : List (List ℕ) → Reaction State) (to : List (List ℕ) → ℕ → State) (Asked : List (List ℕ) → Type 0) (r : Walk) (u : List ℕ) : Type 0 where
   pub moved : Moved s at r
-  pub is : (os : List (List ℕ)) → Fits os → walkLeft s u (to os) r ≡ settle t (log .count) (under (from os) at (drop at s))
+  pub is : (os : List (List ℕ)) → Asked os → walkLeft s u (to os) r ≡ settle t (log .count) (under (from os) at (drop at s))
+
+-- ---- what each walk of a multipart with the boundary b answers
+
+abbrev pub MultiBodyIs : List ℕ → List ℕ → Log → ℕ → Boundary → Boundary → ℕ → Mail → Walk → List ℕ → Type 0
+MultiBodyIs s t log at b outer levels m r u =
+    Inner s t log at (λ os. then [] (preamble m (piece s b) os)) (popped m) (Within s b outer levels) r u
+
+abbrev pub PartIs : List ℕ → List ℕ → Log → ℕ → Boundary → Boundary → ℕ → Mail → Parted → List ℕ → Type 0
+PartIs s t log at b outer levels m r u =
+    Parts s t log at m (piece s b) (λ os. then [] (head m unknown (piece s b ∷ os))) (Within s b outer levels) r u
+
+abbrev pub PreambleIs : List ℕ → Log → ℕ → Boundary → Walk → Type 0
+PreambleIs s log at b r =
+    (m : Mail) (os : List (List ℕ)) (t : List ℕ)
+    → Walks s t log at (then [] (preamble m (piece s b) os)) (λ p. reads (head m unknown (piece s b ∷ os))) r t
+
+abbrev pub ContentIs : List ℕ → List ℕ → Log → ℕ → Boundary → Encoding → Parted → List ℕ → Type 0
+ContentIs s t log at b e r u =
+    (m : Mail) → Parts s t log at m (piece s b) (λ os. starts at (content m e (piece s b) os)) (λ os. Unit {0}) r u
+
+abbrev pub MimeBodyIs : List ℕ → List ℕ → Log → ℕ → Boundary → Encoding → Walk → List ℕ → Type 0
+MimeBodyIs s t log at b e r u =
+    (m : Mail) (os : List (List ℕ)) → Walks s t log at (starts at (content m e (piece s b) os)) (λ p. reads (between m (piece s b) os)) r u
+
+-- behind a close, whatever level was closed
+abbrev pub EpilogueIs : List ℕ → Log → ℕ → Boundary → Mail → Walk → Type 0
+EpilogueIs s log at outer m r =
+    (b : List ℕ) (os : List (List ℕ)) → outermost b os ≡ piece s outer → (t : List ℕ) → Walks s t log at (goes (skip m b os at)) (popped m os) r t

@@ -7,16 +7,17 @@ ghost use Rattle.rules.specs.Phases.{reads, command, offered, head, then};
 ghost use Rattle.rules.specs.Sessions.{limit, session, settle};
 ghost use Rattle.fields.specs.Common.{unknown};
 ghost use Rattle.rules.specs.declared.Mail.the-variants.{Imap};
-ghost use Rattle.sessions.specs.Walks.{finalOf, Walks, Turns};
-use crate::common::Lined;
-use crate::common::Read;
-use crate::common::Two;
-use crate::common::Walk;
-use crate::common::clean_line;
-use crate::common::line;
-use crate::common::read_mail;
-use crate::common::stopped;
-use crate::common::two_bytes;
+ghost use Rattle.events.specs.Table.{finalOf};
+ghost use Rattle.sessions.specs.Walks.{Walks, Turns};
+use crate::header::read_mail;
+use crate::reads::Lined;
+use crate::reads::Read;
+use crate::reads::Two;
+use crate::reads::Walk;
+use crate::reads::line;
+use crate::reads::note_line;
+use crate::reads::stopped;
+use crate::reads::two_bytes;
 use events::Answer;
 use events::CLIENT_LINE;
 use events::Log;
@@ -50,7 +51,7 @@ fn command(s: &[u8], at: usize, table: &mut [u32], log: Log) -> Walk
     requires { ⌜ (length (now s) ≤ limit) × (at ≤ length (now s)) ⌝ }
     ensures { λ r. ⌜ Turns (now (s .entry)) (now (table .entry)) log at command r (now (table .exit)) ⌝ }
 {
-    match clean_line(s, at, CLIENT_LINE, table, log) {
+    match note_line(s, at, CLIENT_LINE, table, log) {
         Lined::Stopped(a) => Walk::Stopped(a),
         Lined::To(end, e, next) => {
             if append(&s[at..end]) {

@@ -1,16 +1,16 @@
 // POP3 sessions, the server's side. Ports `s2c_parser_inner` of pop3.rs.
 ghost use mathlib.Core.Path.{_≡_};
-ghost use mathlib.Core.List.{[]};
 ghost use Prim.Native.Nat.{_≤_};
 ghost use lib.ListN.{length};
-ghost use Rattle.rules.specs.Phases.{reads, status, then};
+ghost use Rattle.rules.specs.Phases.{reads, status};
 ghost use Rattle.rules.specs.Sessions.{limit, session, settle};
-ghost use Rattle.sessions.specs.Walks.{finalOf, Turns};
-use crate::common::Lined;
-use crate::common::Walk;
-use crate::common::clean_line;
-use crate::common::read_mail;
-use crate::common::stopped;
+ghost use Rattle.events.specs.Table.{finalOf};
+ghost use Rattle.sessions.specs.Walks.{Turns};
+use crate::header::read_mail;
+use crate::reads::Lined;
+use crate::reads::Walk;
+use crate::reads::note_line;
+use crate::reads::stopped;
 use events::Answer;
 use events::Log;
 use events::Outcome;
@@ -43,7 +43,7 @@ fn status(s: &[u8], at: usize, table: &mut [u32], log: Log) -> Walk
     requires { ⌜ (length (now s) ≤ limit) × (at ≤ length (now s)) ⌝ }
     ensures { λ r. ⌜ Turns (now (s .entry)) (now (table .entry)) log at status r (now (table .exit)) ⌝ }
 {
-    match clean_line(s, at, SERVER_LINE, table, log) {
+    match note_line(s, at, SERVER_LINE, table, log) {
         Lined::Stopped(a) => Walk::Stopped(a),
         Lined::To(end, e, next) => {
             if stls_answer(&s[at..end]) {

@@ -8,18 +8,21 @@ ghost use Rattle.fields.specs.Smtp.{rcptTo};
 ghost use Rattle.rules.specs.Phases.{reads, hello, second, user, sender, seeking, recipient, reply, head, then};
 ghost use Rattle.rules.specs.Sessions.{limit, session, settle};
 ghost use Rattle.rules.specs.Smtp.{tried, byRecipient};
-ghost use Rattle.sessions.specs.Walks.{finalOf, Walks};
+ghost use Rattle.events.specs.Table.{finalOf};
+ghost use Rattle.sessions.specs.Walks.{Walks};
 ghost use Rattle.fields.specs.Common.{unknown};
 ghost use Rattle.rules.specs.declared.Mail.the-variants.{Smtp};
-use crate::common::Lined;
-use crate::common::Noted;
-use crate::common::Read;
-use crate::common::Walk;
-use crate::common::clean_line;
-use crate::common::line;
-use crate::common::note;
-use crate::common::read_mail;
-use crate::common::stopped;
+use crate::header::read_mail;
+use crate::reads::Clean;
+use crate::reads::Lined;
+use crate::reads::Noted;
+use crate::reads::Read;
+use crate::reads::Walk;
+use crate::reads::clean_line;
+use crate::reads::line;
+use crate::reads::note;
+use crate::reads::note_line;
+use crate::reads::stopped;
 use events::Answer;
 use events::Encoding;
 use events::Log;
@@ -80,17 +83,14 @@ fn envelope(s: &[u8], at: usize, table: &mut [u32], log: Log) -> Walk
     requires { ⌜ (length (now s) ≤ limit) × (at ≤ length (now s)) ⌝ }
     ensures { λ r. ⌜ Walks (now (s .entry)) (now (table .entry)) log at (then [] second) (λ p. reads recipient) r (now (table .exit)) ⌝ }
 {
-    match line(s, at) {
-        Read::Stop(o) => Walk::Stopped(stopped(o, at, log)),
-        Read::To(e) => {
-            let end = at + reading::clean_end(&s[at..e]);
-            match second_line(&s[at..end]) {
-                Second::StartTls => Walk::Stopped(stopped(Outcome::StartTls, at, log)),
-                Second::AuthLogin => login(s, e, table, log),
-                Second::MailFrom => tried(s, at, end, e, table, log),
-                Second::Other => read_to_from(s, e, table, log),
-            }
-        }
+    match clean_line(s, at) {
+        Clean::Stop(o) => Walk::Stopped(stopped(o, at, log)),
+        Clean::To(end, e) => match second_line(&s[at..end]) {
+            Second::StartTls => Walk::Stopped(stopped(Outcome::StartTls, at, log)),
+            Second::AuthLogin => login(s, e, table, log),
+            Second::MailFrom => tried(s, at, end, e, table, log),
+            Second::Other => read_to_from(s, e, table, log),
+        },
     }
 }
 
@@ -113,9 +113,9 @@ fn login(s: &[u8], at: usize, table: &mut [u32], log: Log) -> Walk
     requires { ⌜ (length (now s) ≤ limit) × (at ≤ length (now s)) ⌝ }
     ensures { λ r. ⌜ Walks (now (s .entry)) (now (table .entry)) log at (then [] user) (λ p. reads recipient) r (now (table .exit)) ⌝ }
 {
-    match clean_line(s, at, USER, table, log) {
+    match note_line(s, at, USER, table, log) {
         Lined::Stopped(a) => Walk::Stopped(a),
-        Lined::To(_, pass, n) => match clean_line(s, pass, PASSWORD, table, n) {
+        Lined::To(_, pass, n) => match note_line(s, pass, PASSWORD, table, n) {
             Lined::Stopped(a) => Walk::Stopped(a),
             Lined::To(_, from, m) => sender(s, from, table, m),
         },
@@ -126,12 +126,9 @@ fn sender(s: &[u8], at: usize, table: &mut [u32], log: Log) -> Walk
     requires { ⌜ (length (now s) ≤ limit) × (at ≤ length (now s)) ⌝ }
     ensures { λ r. ⌜ Walks (now (s .entry)) (now (table .entry)) log at (then [] sender) (λ p. reads recipient) r (now (table .exit)) ⌝ }
 {
-    match line(s, at) {
-        Read::Stop(o) => Walk::Stopped(stopped(o, at, log)),
-        Read::To(e) => {
-            let end = at + reading::clean_end(&s[at..e]);
-            tried(s, at, end, e, table, log)
-        }
+    match clean_line(s, at) {
+        Clean::Stop(o) => Walk::Stopped(stopped(o, at, log)),
+        Clean::To(end, e) => tried(s, at, end, e, table, log),
     }
 }
 
@@ -142,12 +139,11 @@ fn read_to_from(s: &[u8], at: usize, table: &mut [u32], log: Log) -> Walk
 {
     let mut p = at;
     loop {
-        match line(s, p) {
-            Read::Stop(o) => {
+        match clean_line(s, p) {
+            Clean::Stop(o) => {
                 return Walk::Stopped(stopped(o, p, log));
             }
-            Read::To(e) => {
-                let end = p + reading::clean_end(&s[p..e]);
+            Clean::To(end, e) => {
                 if is_mail_from(&s[p..end]) {
                     return tried(s, p, end, e, table, log);
                 }
@@ -165,12 +161,11 @@ fn multi_rcpt_to(s: &[u8], at: usize, table: &mut [u32], log: Log) -> Walk
     let mut p = at;
     let mut n = log;
     loop {
-        match line(s, p) {
-            Read::Stop(o) => {
+        match clean_line(s, p) {
+            Clean::Stop(o) => {
                 return Walk::Stopped(stopped(o, p, n));
             }
-            Read::To(e) => {
-                let end = p + reading::clean_end(&s[p..e]);
+            Clean::To(end, e) => {
                 if is_data(&s[p..end]) {
                     return Walk::Went(e, n);
                 }
@@ -209,7 +204,7 @@ pub fn server(s: &[u8], table: &mut [u32]) -> Answer
     let mut p = 0;
     let mut n = Log { count: 0 };
     loop {
-        match clean_line(s, p, SERVER_LINE, table, n) {
+        match note_line(s, p, SERVER_LINE, table, n) {
             Lined::Stopped(a) => {
                 return a;
             }

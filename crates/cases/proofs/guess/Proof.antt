@@ -13,7 +13,7 @@ returns c = rw (← c .before .before .sides-of .ensures, c .enum-told .given .1
 
 returns-2 : tie.Need-returns-2
 unfolding guessOf guessed
-returns-2 c = rw (← c .before .before .before .before .before .before .before .sides-of .ensures, c .before .before .before .before .before .s .given .1, ← rest-is (c .before .before .before .before .before .before .before .before .before .args .b .now) (c .before .before .before .before .before .s .given .0 .0 .server), ← c .before .dir-confirm .ensures, ← c .number .ensures)
+returns-2 c = rw (← c .before .before .before .before .before .before .before .sides-of .ensures, c .before .before .before .before .before .s .given .1, ← rest-is (c .before .before .before .before .before .before .before .before .before .args .b .now) (c .before .before .before .before .before .s .given .0 .0 .server), ← c .before .dir-confirm .ensures, ← c .guess-number .ensures)
 
 pub guess-spec : {M : Type 1} → statement M
 guess-spec =

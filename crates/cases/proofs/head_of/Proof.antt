@@ -7,11 +7,11 @@ use Rattle.cases.proofs.head_of.Tie as tie
 
 returns : tie.Need-returns
 unfolding headOf
-returns c = rw (← c .before .before .before .number .ensures, ← c .before .before .number2 .ensures, eq-eqb _ _ (c .before .if1 .taken))
+returns c = rw (← c .before .before .before .four .ensures, ← c .before .before .four2 .ensures, eq-eqb _ _ (c .before .if1 .taken))
 
 returns-2 : tie.Need-returns-2
 unfolding headOf
-returns-2 c = rw (← c .before .before .before .number .ensures, ← c .before .before .number2 .ensures, ne-eqb _ _ (c .before .if1 .left))
+returns-2 c = rw (← c .before .before .before .four .ensures, ← c .before .before .four2 .ensures, ne-eqb _ _ (c .before .if1 .left))
 
 pub head-of-spec : {M : Type 1} → statement M
 head-of-spec =

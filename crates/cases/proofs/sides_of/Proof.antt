@@ -11,11 +11,11 @@ returns c = rw (lt-ltb _ _ (c .if1 .taken))
 
 returns-2 : tie.Need-returns-2
 unfolding sidesOf
-returns-2 c = rw (le-ltb _ _ (c .before .before .if1 .left), ← c .before .number .ensures, lt-ltb _ _ (c .if2 .taken))
+returns-2 c = rw (le-ltb _ _ (c .before .before .if1 .left), ← c .before .four .ensures, lt-ltb _ _ (c .if2 .taken))
 
 returns-3 : tie.Need-returns-3
 unfolding sidesOf mark
-returns-3 c = rw (le-ltb _ _ (c .before .before .before .before .before .before .before .if1 .left), ← c .before .before .before .before .before .before .number .ensures, ← c .before .before .before .before .number2 .ensures, ← c .before .before .before .port .ensures .0, ← c .before .before .port2 .ensures .0, le-ltb _ _ (c .before .before .before .before .before .if2 .left))
+returns-3 c = rw (le-ltb _ _ (c .before .before .before .before .before .before .before .if1 .left), ← c .before .before .before .before .before .before .four .ensures, ← c .before .before .before .before .four2 .ensures, ← c .before .before .before .two .ensures .0, ← c .before .before .two2 .ensures .0, le-ltb _ _ (c .before .before .before .before .before .if2 .left))
 
 pub sides-of-spec : {M : Type 1} → statement M
 sides-of-spec =

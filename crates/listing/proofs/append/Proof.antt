@@ -3,13 +3,13 @@ use native.Mathlib.Omega.{arith}
 use borrow.Author.Needs.{needs}
 use Rattle.listing.specs.Listing.{listing}
 use Rattle.listing.proofs.Lines.{lines-room}
-use Rattle.listing.proofs.Puts.{puts-on}
+use Rattle.listing.proofs.Pasted.{pasted-on}
 use Rattle.listing.proofs.append.Statement.{statement}
 use Rattle.listing.proofs.append.Tie as tie
 
 returns : tie.Need-returns
 unfolding listing
-returns c = puts-on (c .before .before .before .before .before .before .event-lines .ensures) (omega (arith, c .before .before .before .before .before .before .before .before .before .before .pre .0)) (c .before .before .last-line .ensures)
+returns c = pasted-on (c .before .before .before .before .before .before .event-lines .ensures) (omega (arith, c .before .before .before .before .before .before .before .before .before .before .pre .0)) (c .before .before .last-line .ensures)
 
 pub append-spec : {M : Type 1} → statement M
 append-spec =

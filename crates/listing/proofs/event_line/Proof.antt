@@ -1,7 +1,7 @@
 -- `listing::event_line` meets its contract. Assumes nothing.
 use native.Mathlib.Omega.{arith}
 use borrow.Author.Needs.{needs}
-use Rattle.listing.specs.Listing.{eventAt}
+use Rattle.events.specs.Table.{eventAt}
 use Rattle.listing.proofs.Lines.{word-room, line-last, line-on}
 use Rattle.listing.proofs.event_line.Statement.{statement}
 use Rattle.listing.proofs.event_line.Tie as tie

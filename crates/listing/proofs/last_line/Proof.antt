@@ -12,6 +12,6 @@ last-line-spec =
     (λ c _. search needs)
     (λ c _. search needs)
     (λ c _. word-room _ _ (c .before .before .before .small .ensures) 21 (omega (arith, c .before .before .before .before .before .before .before .pre)))
-    (λ c _. word-room _ _ (c .before .before .before .number2 .ensures) 21 (word-room _ _ (c .before .before .before .before .before .before .before .small .ensures) 42 (c .before .before .before .before .before .before .before .before .before .before .before .pre)))
+    (λ c _. word-room _ _ (c .before .before .before .word .ensures) 21 (word-room _ _ (c .before .before .before .before .before .before .before .small .ensures) 42 (c .before .before .before .before .before .before .before .before .before .before .before .pre)))
     (λ c. search needs)
-    (λ c. line-on _ _ _ (omega (arith, c .before .before .before .before .before .before .before .before .before .before .before .before .before .before .pre)) (rw (c .before .before .before .before .before .before .before .before .before .before .before .number .ensures) at (c .before .before .before .before .before .before .before .before .before .before .small .ensures)) (line-on _ _ _ (word-room _ _ (c .before .before .before .before .before .before .before .before .before .before .small .ensures) 21 (omega (arith, c .before .before .before .before .before .before .before .before .before .before .before .before .before .before .pre))) (c .before .before .before .before .before .before .number2 .ensures) (line-last _ (c .before .before .number3 .ensures)))))
+    (λ c. line-on _ _ _ (omega (arith, c .before .before .before .before .before .before .before .before .before .before .before .before .before .before .pre)) (rw (c .before .before .before .before .before .before .before .before .before .before .before .result-number .ensures) at (c .before .before .before .before .before .before .before .before .before .before .small .ensures)) (line-on _ _ _ (word-room _ _ (c .before .before .before .before .before .before .before .before .before .before .small .ensures) 21 (omega (arith, c .before .before .before .before .before .before .before .before .before .before .before .before .before .before .pre))) (c .before .before .before .before .before .before .word .ensures) (line-last _ (c .before .before .word2 .ensures)))))

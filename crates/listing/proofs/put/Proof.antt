@@ -3,7 +3,7 @@ use Prim.Native.Nat.{_-_}
 use native.Mathlib.Omega.{arith}
 use lib.ListN.{length}
 use borrow.Author.Needs.{needs}
-use Rattle.listing.proofs.Puts.{Copied, copied-none-yet, copied-length, copied-on, copied-all}
+use Rattle.listing.proofs.Pasted.{Copied, copied-none-yet, copied-length, copied-on, copied-all}
 use Rattle.listing.proofs.put.Statement.{statement}
 use Rattle.listing.proofs.put.Tie as tie
 

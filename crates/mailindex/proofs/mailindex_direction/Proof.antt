@@ -6,4 +6,4 @@ use Rattle.mailindex.proofs.mailindex_direction.Statement.{statement}
 use Rattle.mailindex.proofs.mailindex_direction.Tie as tie
 
 pub mailindex-direction-spec : {M : Type 1} → statement M
-mailindex-direction-spec = tie.close (tie.spec (λ c _. search needs) (λ c _. search needs) (λ c. c .number .ensures ∙ ap guessNumber (c .before .dir-confirm .ensures)))
+mailindex-direction-spec = tie.close (tie.spec (λ c _. search needs) (λ c _. search needs) (λ c. c .guess-number .ensures ∙ ap guessNumber (c .before .dir-confirm .ensures)))

@@ -11,21 +11,21 @@ use Rattle.replay.proofs.agrees.Tie as tie
 
 returns : tie.Need-returns
 unfolding agree
-returns c = rw (← c .before .before .number .ensures, ← c .before .number2 .ensures, ne-eqb _ _ (c .if1 .taken))
+returns c = rw (← c .before .before .result-number .ensures, ← c .before .four .ensures, ne-eqb _ _ (c .if1 .taken))
 
 returns-2 : tie.Need-returns-2
 unfolding agree
 returns-2 c =
-    let place : c .before .number3 .result ≡ four (c .before .before .before .before .before .before .before .before .args .stored .now) 4 = c .before .number3 .ensures in
-    rw (← c .before .before .before .before .number .ensures, ← c .before .before .before .number2 .ensures, eq-eqb _ _ (c .before .before .if1 .left), ← place, ne-eqb _ _ (c .if2 .taken))
+    let place : c .before .four2 .result ≡ four (c .before .before .before .before .before .before .before .before .args .stored .now) 4 = c .before .four2 .ensures in
+    rw (← c .before .before .before .before .result-number .ensures, ← c .before .before .before .four .ensures, eq-eqb _ _ (c .before .before .if1 .left), ← place, ne-eqb _ _ (c .if2 .taken))
 
 returns-3 : tie.Need-returns-3
 unfolding agree
-returns-3 c = rw (← c .before .before .before .before .before .before .before .before .number .ensures, ← c .before .before .before .before .before .before .before .number2 .ensures, eq-eqb _ _ (c .before .before .before .before .before .before .if1 .left), ← c .before .before .before .before .before .number3 .ensures, eq-eqb _ _ (c .before .before .before .before .if2 .left), ← c .before .same-numbers .ensures, not-true (c .before .same-numbers .result) (c .if3 .taken))
+returns-3 c = rw (← c .before .before .before .before .before .before .before .before .result-number .ensures, ← c .before .before .before .before .before .before .before .four .ensures, eq-eqb _ _ (c .before .before .before .before .before .before .if1 .left), ← c .before .before .before .before .before .four2 .ensures, eq-eqb _ _ (c .before .before .before .before .if2 .left), ← c .before .same-numbers .ensures, not-true (c .before .same-numbers .result) (c .if3 .taken))
 
 returns-4 : tie.Need-returns-4
 unfolding agree
-returns-4 c = rw (← c .before .before .before .before .before .before .before .before .before .before .number .ensures, ← c .before .before .before .before .before .before .before .before .before .number2 .ensures, eq-eqb _ _ (c .before .before .before .before .before .before .before .before .if1 .left), ← c .before .before .before .before .before .before .before .number3 .ensures, eq-eqb _ _ (c .before .before .before .before .before .before .if2 .left), ← c .before .before .before .same-numbers .ensures, not-false (c .before .before .before .same-numbers .result) (c .before .before .if3 .left)) (c .untouched .ensures ∙ ap (only pattern) (rest-is (c .before .before .before .before .before .before .before .before .before .before .before .before .before .before .args .table .now) _))
+returns-4 c = rw (← c .before .before .before .before .before .before .before .before .before .before .result-number .ensures, ← c .before .before .before .before .before .before .before .before .before .four .ensures, eq-eqb _ _ (c .before .before .before .before .before .before .before .before .if1 .left), ← c .before .before .before .before .before .before .before .four2 .ensures, eq-eqb _ _ (c .before .before .before .before .before .before .if2 .left), ← c .before .before .before .same-numbers .ensures, not-false (c .before .before .before .same-numbers .result) (c .before .before .if3 .left)) (c .untouched .ensures ∙ ap (only pattern) (rest-is (c .before .before .before .before .before .before .before .before .before .before .before .before .before .before .args .table .now) _))
 
 pub agrees-spec : {M : Type 1} → statement M
 agrees-spec =

@@ -19,4 +19,4 @@ direction-case-spec =
     (λ c. search needs)
     (λ c _. search needs)
     (λ c. broken)
-    (λ c. direction-judged _ _ (c .before .before .before .before .before .before .before .before .before .filled .kept .1 .0) (c .before .before .before .before .before .number .ensures) (c .before .before .before .before .guess .ensures) (c .before .before .n .given .1) (c .judged .ensures)))
+    (λ c. direction-judged _ _ (c .before .before .before .before .before .before .before .before .before .filled .kept .1 .0) (c .before .before .before .before .before .four .ensures) (c .before .before .before .before .guess .ensures) (c .before .before .n .given .1) (c .judged .ensures)))

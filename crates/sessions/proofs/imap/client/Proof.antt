@@ -7,7 +7,7 @@ use lib.ListN.{length}
 use borrow.Author.Needs.{needs}
 use Rattle.rules.specs.Phases.{reads, then, command}
 use Rattle.sessions.specs.Walks.{Walks}
-use Rattle.sessions.specs.declared.common.Walk.the-variants as walk
+use Rattle.sessions.specs.declared.reads.Walk.the-variants as walk
 use Rattle.sessions.proofs.Steps.{here, walked}
 use Rattle.sessions.proofs.imap.client.Statement.{statement}
 use Rattle.sessions.proofs.imap.client.Tie as tie

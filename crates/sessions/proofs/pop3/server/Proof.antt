@@ -7,7 +7,7 @@ use lib.ListN.{length}
 use borrow.Author.Needs.{needs}
 use Rattle.rules.specs.Phases.{reads, then, status}
 use Rattle.sessions.specs.Walks.{Walks}
-use Rattle.sessions.specs.declared.common.Walk.the-variants as walk
+use Rattle.sessions.specs.declared.reads.Walk.the-variants as walk
 use Rattle.sessions.proofs.Steps.{here, walked}
 use Rattle.sessions.proofs.pop3.server.Statement.{statement}
 use Rattle.sessions.proofs.pop3.server.Tie as tie

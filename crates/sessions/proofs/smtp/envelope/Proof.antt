@@ -3,46 +3,72 @@ use mathlib.Core.Path.{sym, _∙_}
 use native.Mathlib.Omega.{arith}
 use borrow.Author.Needs.{needs}
 use Rattle.rules.specs.Phases.{wants, second}
-use Rattle.sessions.proofs.Lines.{clean-end}
 use Rattle.sessions.proofs.SmtpTurns.{second-tls, second-login, second-from, second-other}
 use Rattle.sessions.proofs.Steps.{read-stop}
 use Rattle.sessions.proofs.smtp.envelope.Statement.{statement}
 use Rattle.sessions.proofs.smtp.envelope.Tie as tie
 
+sub-second-line : tie.Need-sub-second-line
+sub-second-line c = (rw (c .before .end .given .1) at (c .before .before .before .clean-line .ensures)) .from
+
+part-second-line-start : tie.Need-part-second-line-start
+part-second-line-start c = (rw (c .before .end .given .1) at (c .before .before .before .clean-line .ensures)) .from
+
+part-second-line-end : tie.Need-part-second-line-end
+part-second-line-end c = let line = rw (c .before .end .given .1) at (c .before .before .before .clean-line .ensures) in omega (arith, line .within, line .ends .within)
+
+login-requires : tie.Need-login-requires
+login-requires c κs = (omega arith, (rw (c .before .before .before .before .before .before .end .given .1) at (c .before .before .before .before .before .before .before .before .clean-line .ensures)) .ends .within)
+
+tried-requires : tie.Need-tried-requires
+tried-requires c κs =
+    let line = rw (c .before .before .before .before .before .before .end .given .1) at (c .before .before .before .before .before .before .before .before .clean-line .ensures) in
+    (omega arith, line .from, line .within, line .ends .within)
+
+read-to-from-requires : tie.Need-read-to-from-requires
+read-to-from-requires c κs = (omega arith, (rw (c .before .before .before .before .before .before .end .given .1) at (c .before .before .before .before .before .before .before .before .clean-line .ensures)) .ends .within)
+
 returns : tie.Need-returns
 unfolding wants
-returns c = read-stop second (rw (c .before .before .o .given .1) at (c .before .before .before .before .line .ensures)) (c .stopped .ensures)
+returns c = read-stop second (rw (c .before .before .o .given .1) at (c .before .before .before .before .clean-line .ensures)) (c .stopped .ensures)
+
+returns-2 : tie.Need-returns-2
+returns-2 c = second-tls (rw (c .before .before .before .before .before .before .end .given .1) at (c .before .before .before .before .before .before .before .before .clean-line .ensures)) (sym (c .before .before .before .second-line .ensures) ∙ c .before .enum-told .given .1) (c .stopped2 .ensures)
+
+returns-3 : tie.Need-returns-3
+returns-3 c = second-login (rw (c .before .before .before .before .before .before .before .before .before .end .given .1) at (c .before .before .before .before .before .before .before .before .before .before .before .clean-line .ensures)) (sym (c .before .before .before .before .before .before .second-line .ensures) ∙ c .before .before .before .before .enum-told2 .given .1) (c .before .before .login .ensures)
+
+returns-4 : tie.Need-returns-4
+returns-4 c = second-from (rw (c .before .before .before .before .before .before .before .before .before .end .given .1) at (c .before .before .before .before .before .before .before .before .before .before .before .clean-line .ensures)) (sym (c .before .before .before .before .before .before .second-line .ensures) ∙ c .before .before .before .before .enum-told3 .given .1) (c .before .before .tried .ensures)
+
+returns-5 : tie.Need-returns-5
+returns-5 c = second-other (rw (c .before .before .before .before .before .before .before .before .before .end .given .1) at (c .before .before .before .before .before .before .before .before .before .before .before .clean-line .ensures)) (sym (c .before .before .before .before .before .before .second-line .ensures) ∙ c .before .before .before .before .enum-told4 .given .1) (c .before .before .read-to-from .ensures)
 
 pub envelope-spec : {M : Type 1} → statement M
 envelope-spec =
     tie.close
     (tie.spec
-    (λ c _. search needs)
+    (λ c κs. search needs)
     (λ c. search needs)
-    (λ c _. search needs)
+    (λ c κs. search needs)
     (λ c. search needs)
-    (λ c. omega (arith, (rw (c .before .e .given .1) at (c .before .before .before .line .ensures)) .on))
-    (λ c. omega (arith, (rw (c .before .e .given .1) at (c .before .before .before .line .ensures)) .on))
-    (λ c. (rw (c .before .e .given .1) at (c .before .before .before .line .ensures)) .within)
-    (λ c _. search needs)
-    (λ c. omega (arith, clean-end (rw (c .before .before .before .e .given .1) at (c .before .before .before .before .before .line .ensures)) (c .clean-end .ensures), (rw (c .before .before .before .e .given .1) at (c .before .before .before .before .before .line .ensures)) .within))
-    (λ c. omega arith)
-    (λ c. omega arith)
-    (λ c. omega (arith, clean-end (rw (c .before .before .before .e .given .1) at (c .before .before .before .before .before .line .ensures)) (c .clean-end .ensures), (rw (c .before .before .before .e .given .1) at (c .before .before .before .before .before .line .ensures)) .within))
-    (λ c _. search needs)
+    sub-second-line
+    part-second-line-start
+    part-second-line-end
+    (λ c κs. search needs)
     (λ c. search needs)
-    (λ c _. search needs)
+    (λ c κs. search needs)
     (λ c. search needs)
-    (λ c _. (omega arith, (rw (c .before .before .before .before .before .before .before .before .e .given .1) at (c .before .before .before .before .before .before .before .before .before .before .line .ensures)) .within))
+    login-requires
     (λ c. search needs)
-    (λ c _. (omega arith, omega arith, clean-end (rw (c .before .before .before .before .before .before .before .before .e .given .1) at (c .before .before .before .before .before .before .before .before .before .before .line .ensures)) (c .before .before .before .before .before .clean-end .ensures), (rw (c .before .before .before .before .before .before .before .before .e .given .1) at (c .before .before .before .before .before .before .before .before .before .before .line .ensures)) .within))
+    tried-requires
     (λ c. search needs)
-    (λ c _. (omega arith, (rw (c .before .before .before .before .before .before .before .before .e .given .1) at (c .before .before .before .before .before .before .before .before .before .before .line .ensures)) .within))
+    read-to-from-requires
     returns
-    (λ c. second-tls (rw (c .before .before .before .before .before .before .before .before .e .given .1) at (c .before .before .before .before .before .before .before .before .before .before .line .ensures)) (c .before .before .before .before .before .clean-end .ensures) (sym (c .before .before .before .second-line .ensures) ∙ c .before .enum-told .given .1) (c .stopped2 .ensures))
+    returns-2
     (λ c. search needs)
-    (λ c. second-login (rw (c .before .before .before .before .before .before .before .before .before .before .before .e .given .1) at (c .before .before .before .before .before .before .before .before .before .before .before .before .before .line .ensures)) (c .before .before .before .before .before .before .before .before .clean-end .ensures) (sym (c .before .before .before .before .before .before .second-line .ensures) ∙ c .before .before .before .before .enum-told2 .given .1) (c .before .before .login .ensures))
+    returns-3
     (λ c. search needs)
-    (λ c. second-from (rw (c .before .before .before .before .before .before .before .before .before .before .before .e .given .1) at (c .before .before .before .before .before .before .before .before .before .before .before .before .before .line .ensures)) (c .before .before .before .before .before .before .before .before .clean-end .ensures) (sym (c .before .before .before .before .before .before .second-line .ensures) ∙ c .before .before .before .before .enum-told3 .given .1) (c .before .before .tried .ensures))
+    returns-4
     (λ c. search needs)
-    (λ c. second-other (rw (c .before .before .before .before .before .before .before .before .before .before .before .e .given .1) at (c .before .before .before .before .before .before .before .before .before .before .before .before .before .line .ensures)) (c .before .before .before .before .before .before .before .before .clean-end .ensures) (sym (c .before .before .before .before .before .before .second-line .ensures) ∙ c .before .before .before .before .enum-told4 .given .1) (c .before .before .read-to-from .ensures)))
+    returns-5)

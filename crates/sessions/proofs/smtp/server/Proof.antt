@@ -7,7 +7,7 @@ use lib.ListN.{length}
 use borrow.Author.Needs.{needs}
 use Rattle.rules.specs.Phases.{reads, then, reply}
 use Rattle.sessions.specs.Walks.{Walks}
-use Rattle.sessions.specs.declared.common.Walk.the-variants as walk
+use Rattle.sessions.specs.declared.reads.Walk.the-variants as walk
 use Rattle.sessions.proofs.SmtpTurns.{reply-stop, reply-on, reply-last}
 use Rattle.sessions.proofs.Steps.{here, walked}
 use Rattle.sessions.proofs.smtp.server.Statement.{statement}
@@ -29,15 +29,15 @@ server-spec =
     (λ c _. (omega arith, c .before .loop .inv .0 .moved .1))
     (λ c. search needs)
     (λ c. search needs)
-    (λ c. walked {to = λ q. reads reply} (c .before .before .before .before .before .before .before .loop .inv .0) (reply-stop (rw (c .before .a .given .1) at (c .before .before .before .before .before .clean-line .ensures))) .is)
+    (λ c. walked {to = λ q. reads reply} (c .before .before .before .before .before .before .before .loop .inv .0) (reply-stop (rw (c .before .a .given .1) at (c .before .before .before .before .before .note-line .ensures))) .is)
     (λ c. search needs)
-    (λ c. omega (arith, (rw (c .before .end .given .1) at (c .before .before .before .before .before .clean-line .ensures)) .from))
-    (λ c. omega (arith, (rw (c .before .end .given .1) at (c .before .before .before .before .before .clean-line .ensures)) .from))
-    (λ c. omega (arith, (rw (c .before .end .given .1) at (c .before .before .before .before .before .clean-line .ensures)) .within, (rw (c .before .end .given .1) at (c .before .before .before .before .before .clean-line .ensures)) .ends .within))
+    (λ c. omega (arith, (rw (c .before .end .given .1) at (c .before .before .before .before .before .note-line .ensures)) .line .from))
+    (λ c. omega (arith, (rw (c .before .end .given .1) at (c .before .before .before .before .before .note-line .ensures)) .line .from))
+    (λ c. omega (arith, (rw (c .before .end .given .1) at (c .before .before .before .before .before .note-line .ensures)) .line .within, (rw (c .before .end .given .1) at (c .before .before .before .before .before .note-line .ensures)) .line .ends .within))
     (λ c. search needs)
     (λ c _. search needs)
     (λ c _. search needs)
     (λ c. search needs)
-    (λ c. walked {to = λ q. reads reply} (c .before .before .before .before .before .before .before .before .before .before .before .before .loop .inv .0) (reply-last (rw (c .before .before .before .before .before .before .end .given .1) at (c .before .before .before .before .before .before .before .before .before .before .clean-line .ensures)) (sym (c .before .before .starts-with .ensures) ∙ c .before .if1 .taken) (c .stopped .ensures)) .is)
-    (λ c. omega (arith, (rw (c .before .before .before .before .before .end .given .1) at (c .before .before .before .before .before .before .before .before .before .clean-line .ensures)) .ends .on, (rw (c .before .before .before .before .before .end .given .1) at (c .before .before .before .before .before .before .before .before .before .clean-line .ensures)) .ends .within))
-    (λ c. (walked (c .before .before .before .before .before .before .before .before .before .before .before .loop .inv .0) (reply-on (rw (c .before .before .before .before .before .end .given .1) at (c .before .before .before .before .before .before .before .before .before .clean-line .ensures)) (sym (c .before .starts-with .ensures) ∙ c .if1 .left) (here _ ((rw (c .before .before .before .before .before .end .given .1) at (c .before .before .before .before .before .before .before .before .before .clean-line .ensures)) .ends .within))), c .before .before .before .before .before .before .before .before .before .clean-line .kept .1 .1 .1 .0 ∙ c .before .before .before .before .before .before .before .before .before .before .before .loop .inv .1)))
+    (λ c. walked {to = λ q. reads reply} (c .before .before .before .before .before .before .before .before .before .before .before .before .loop .inv .0) (reply-last (rw (c .before .before .before .before .before .before .end .given .1) at (c .before .before .before .before .before .before .before .before .before .before .note-line .ensures)) (sym (c .before .before .starts-with .ensures) ∙ c .before .if1 .taken) (c .stopped .ensures)) .is)
+    (λ c. omega (arith, (rw (c .before .before .before .before .before .end .given .1) at (c .before .before .before .before .before .before .before .before .before .note-line .ensures)) .line .ends .on, (rw (c .before .before .before .before .before .end .given .1) at (c .before .before .before .before .before .before .before .before .before .note-line .ensures)) .line .ends .within))
+    (λ c. (walked (c .before .before .before .before .before .before .before .before .before .before .before .loop .inv .0) (reply-on (rw (c .before .before .before .before .before .end .given .1) at (c .before .before .before .before .before .before .before .before .before .note-line .ensures)) (sym (c .before .starts-with .ensures) ∙ c .if1 .left) (here _ ((rw (c .before .before .before .before .before .end .given .1) at (c .before .before .before .before .before .before .before .before .before .note-line .ensures)) .line .ends .within))), c .before .before .before .before .before .before .before .before .before .note-line .kept .1 .1 .1 .0 ∙ c .before .before .before .before .before .before .before .before .before .before .before .loop .inv .1)))

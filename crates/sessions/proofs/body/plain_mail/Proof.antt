@@ -1,0 +1,44 @@
+-- `sessions::body::plain_mail` meets its contract. Assumes nothing.
+use borrow.Author.Needs.{needs}
+use borrow.Author.Tests.{lt-ltb, le-ltb}
+use Rattle.rules.specs.Mail.{plainMail, afterMail, rest}
+use Rattle.rules.specs.declared.Mail.the-variants.{Smtp, Pop3}
+use Rattle.sessions.proofs.Steps.{stop}
+use Rattle.sessions.proofs.body.plain_mail.Statement.{statement}
+use Rattle.sessions.proofs.body.plain_mail.Tie as tie
+
+returns : tie.Need-returns
+unfolding plainMail
+returns c = rw (c .before .before .before .mail .given .1, lt-ltb _ _ (c .before .if1 .taken)) (stop (c .stopped .ensures))
+
+returns-2 : tie.Need-returns-2
+unfolding plainMail
+returns-2 c = rw (c .before .before .before .before .enum-told .given .1) (c .before .before .body .ensures Smtp)
+
+returns-3 : tie.Need-returns-3
+unfolding plainMail
+returns-3 c = rw (c .before .before .before .before .enum-told2 .given .1) (c .before .before .body2 .ensures Pop3)
+
+returns-4 : tie.Need-returns-4
+unfolding plainMail rest afterMail
+returns-4 c = rw (c .before .before .before .before .before .before .mail .given .1, le-ltb _ _ (c .before .before .before .before .if1 .left)) (c .before .before .size-body .ensures)
+
+pub plain-mail-spec : {M : Type 1} → statement M
+plain-mail-spec =
+    tie.close
+    (tie.spec
+    (λ c. search needs)
+    (λ c _. search needs)
+    (λ c. search needs)
+    (λ c _. search needs)
+    (λ c. search needs)
+    (λ c. rw (c .before .mail .given .1) at (c .before .before .before .before .before .pre .2))
+    (λ c _. search needs)
+    returns
+    (λ c _. search needs)
+    (λ c. search needs)
+    returns-2
+    (λ c. search needs)
+    returns-3
+    (λ c. search needs)
+    returns-4)

@@ -1,0 +1,39 @@
+-- `sessions::reads::clean_line` meets its contract. Assumes nothing.
+use native.Mathlib.Omega.{arith}
+use borrow.Author.Needs.{needs}
+use Rattle.sessions.proofs.Lines.{cleaned}
+use Rattle.sessions.proofs.reads.clean_line.Statement.{statement}
+use Rattle.sessions.proofs.reads.clean_line.Tie as tie
+
+sub-clean-end : tie.Need-sub-clean-end
+sub-clean-end c = omega (arith, (rw (c .before .e .given .1) at (c .before .before .before .line .ensures)) .on)
+
+part-clean-end-start : tie.Need-part-clean-end-start
+part-clean-end-start c = omega (arith, (rw (c .before .e .given .1) at (c .before .before .before .line .ensures)) .on)
+
+part-clean-end-end : tie.Need-part-clean-end-end
+part-clean-end-end c = (rw (c .before .e .given .1) at (c .before .before .before .line .ensures)) .within
+
+add-t12 : tie.Need-add-t12
+add-t12 c = let line = cleaned (rw (c .before .before .before .e .given .1) at (c .before .before .before .before .before .line .ensures)) (c .clean-end .ensures) in omega (arith, line .within, line .ends .within)
+
+returns : tie.Need-returns
+returns c = rw (c .before .o .given .1) at (c .before .before .before .line .ensures)
+
+returns-2 : tie.Need-returns-2
+returns-2 c = cleaned (rw (c .before .before .before .e .given .1) at (c .before .before .before .before .before .line .ensures)) (c .clean-end .ensures)
+
+pub clean-line-spec : {M : Type 1} → statement M
+clean-line-spec =
+    tie.close
+    (tie.spec
+    (λ c κs. search needs)
+    (λ c. search needs)
+    (λ c. search needs)
+    sub-clean-end
+    part-clean-end-start
+    part-clean-end-end
+    (λ c κs. search needs)
+    add-t12
+    returns
+    returns-2)

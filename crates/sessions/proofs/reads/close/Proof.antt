@@ -1,0 +1,18 @@
+-- `sessions::reads::close` meets its contract. Assumes nothing.
+use mathlib.Core.List.{[]}
+use borrow.Author.Needs.{needs}
+use Rattle.sessions.proofs.Steps.{here, note-stop, note}
+use Rattle.sessions.proofs.reads.close.Statement.{statement}
+use Rattle.sessions.proofs.reads.close.Tie as tie
+
+pub close-spec : {M : Type 1} → statement M
+close-spec =
+    tie.close
+    (tie.spec
+    (λ c _. search needs)
+    (λ c. search needs)
+    (λ c. search needs)
+    (λ c. search needs)
+    (λ c. λ s st h. note-stop [] (st _) (rw (c .before .a .given .1) at (c .before .before .before .before .before .note .ensures)))
+    (λ c. search needs)
+    (λ c. λ s st h. note [] (st _) (rw (c .before .next .given .1) at (c .before .before .before .before .before .note .ensures)) (here _ h)))

@@ -1,0 +1,14 @@
+-- `sessions::reads::sized` meets its contract. Assumes nothing.
+use borrow.Author.Needs.{needs}
+use Rattle.sessions.proofs.Readings.{sized-ends, sized-stops}
+use Rattle.sessions.proofs.reads.sized.Statement.{statement}
+use Rattle.sessions.proofs.reads.sized.Tie as tie
+
+pub sized-spec : {M : Type 1} → statement M
+sized-spec =
+    tie.close
+    (tie.spec
+    (λ c. search needs)
+    (λ c. search needs)
+    (λ c. sized-ends _ _ _ (c .before .pre .0) (c .before .pre .1) (c .if1 .taken))
+    (λ c. sized-stops _ _ _ (c .before .pre .1) (c .if1 .left)))
