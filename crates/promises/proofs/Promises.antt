@@ -5,18 +5,28 @@ use mathlib.Core.List.{List}
 use Prim.Native.Nat.{ℕ, _≤_}
 use native.Mathlib.Omega.{arith}
 use lib.ListN.{length, take}
+use Rattle.events.specs.Events.{resultNumber}
 use Rattle.events.specs.Table.{Final, finalOf, slots}
-use Rattle.events.specs.declared.Outcome.the-variants.{TableFull}
 use Rattle.rules.proofs.Counting as counts
 use Rattle.rules.proofs.Counting.{credit, phaseCredit, isTen}
+use Rattle.rules.proofs.Kept as kept
 use Rattle.rules.proofs.Secrecy as rule
 use Rattle.rules.specs.Phases.{reads}
 use Rattle.rules.specs.Secrecy.{Replaced, eventsOf}
 use Rattle.rules.specs.Sessions.{startOf, answerOf}
 use Rattle.rules.specs.declared.Entry.{Entry}
 use Rattle.rules.specs.declared.Entry.the-variants.{SmtpClient, SmtpServer, Pop3Server, ImapClient}
-use Rattle.promises.specs.Promises.{Exit, Owes, sessionEvents}
+use Rattle.promises.specs.Promises.{Exit, Owes, Untouched, sessionEvents}
 use Rattle.promises.proofs.Determined.{entries}
+
+-- ---- demand 1: every number of the table past the events is untouched, and so is the table's length
+pub untouched : (e : Entry) (t s : List ℕ) (x : Exit) → Owes e t s x → Untouched t x
+untouched e t s x h =
+    let k = kept.kept (startOf e) t s in
+    record {
+      long = ap (λ (f : Final). length (f .table)) (h .is) ∙ k .long;
+      behind = rw (ap (λ (f : Final). f .table) (h .is), ap (λ (f : Final). f .count) (h .is)) (k .behind);
+    }
 
 -- ---- demand 3: u is the session s with bytes replaced inside the events that its exit lists, as far as is permitted. Then the exits are identical:
 -- result, place, count, and every number of the table
@@ -41,10 +51,10 @@ pub count-bound : (e : Entry) (t s : List ℕ) (x : Exit) → Owes e t s x → x
 count-bound e t s x h = rw (ap (λ (f : Final). f .count) (h .is)) (counts.count-bound (startOf e) (no-credit e) t s)
 
 -- so that a slot per byte always suffices: refusal 10 is never given
-pub slots-suffice : (e : Entry) (t s : List ℕ) (x : Exit) → Owes e t s x → length s ≤ slots t → x .answer .result ≡ TableFull → ⊥
+pub slots-suffice : (e : Entry) (t s : List ℕ) (x : Exit) → Owes e t s x → length s ≤ slots t → resultNumber (x .answer .result) ≡ 10 → ⊥
 unfolding isTen
-slots-suffice e t s x h g full =
-    let r : answerOf e t s .result ≡ TableFull = rw (ap (λ (f : Final). f .result) (h .is)) at full in
+slots-suffice e t s x h g ten =
+    let r : resultNumber (answerOf e t s .result) ≡ 10 = rw (ap (λ (f : Final). f .result) (h .is)) at ten in
     let b = rw r at (counts.slots-suffice (startOf e) (no-credit e) t s g) in
     let z : _≡_ {A = ℕ} 0 1 = cc in
     omega arith

@@ -2,7 +2,9 @@
 -- Assumes nothing.
 use mathlib.Core.Path.{_≡_}
 use mathlib.Core.List.{List}
-use Prim.Native.Nat.{ℕ}
+use Prim.Native.Nat.{ℕ, _*_}
+use lib.ListN.{length, drop}
+use Rattle.events.specs.Events.{width}
 use Rattle.events.specs.Table.{finalOf}
 use Rattle.events.specs.declared.Answer.{Answer}
 use Rattle.events.specs.declared.Event.{Event}
@@ -18,6 +20,11 @@ pub record Exit : Type 0 where
 -- the contract of an entry, called with the table t on the session s: crates/sessions/src/lib.rt
 pub record Owes (e : Entry) (t s : List ℕ) (x : Exit) : Type 0 where
   pub is : finalOf (x .table) (x .answer) ≡ answerOf e t s
+
+-- the table t has kept its length, and every number past the events
+pub record Untouched (t : List ℕ) (x : Exit) : Type 0 where
+  pub long : length (x .table) ≡ length t
+  pub behind : drop (x .answer .count * width) (x .table) ≡ drop (x .answer .count * width) t
 
 -- any two that meet a contract are identical
 abbrev pub Determined : {A : Type 0} → (A → Type 0) → Type 0

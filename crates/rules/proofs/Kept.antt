@@ -1,10 +1,8 @@
 -- What an answer leaves alone: every number of the table past its events, and the table's length; and its events have slots.
 -- Assumes nothing.
 use mathlib.Core.Path.{_≡_, refl, ap}
-use mathlib.Core.Bool.{Bool, true, false, cond}
 use mathlib.Core.List.{List}
 use Prim.Native.Nat.{ℕ, _*_, _≤_}
-use native.Mathlib.Nat.{le-refl}
 use native.Mathlib.Omega.{arith}
 use lib.Dec.{ltb}
 use lib.ListN.{length}
@@ -12,28 +10,24 @@ use Rattle.events.proofs.Laws.{Keeps, keeps, pour-room}
 use Rattle.events.specs.Events.{width}
 use Rattle.events.specs.Table.{Final, finalOf, slots}
 use Rattle.events.specs.declared.Answer.{Answer}
+use Rattle.reading.proofs.Places.{by-test}
 use Rattle.rules.specs.Phases.{Phase, reads}
 use Rattle.rules.specs.Sessions.{limit, session, settle, answer}
-
--- refused before it is read, or read: what holds of both holds of the answer
-either : (P : Final → Type 0) (b : Bool) {f g : Final} → P f → P g → P (cond b f g)
-either P true h g = h
-either P false h g = g
 
 module _ (start : Phase) (t s : List ℕ) where
   pub kept : Keeps t 0 (answer start t s)
   unfolding answer settle
   kept =
-      either (Keeps t 0) (ltb limit (length s))
-      (record { grown = le-refl 0; front = λ j h. refl; behind = refl; long = refl })
-      (keeps (session (reads start) 0 s .events) t 0 _ _)
+      by-test (ltb limit (length s))
+      (λ long. rw long (record { grown = omega arith; front = λ j h. refl; behind = refl; long = refl }))
+      (λ fits. rw fits (keeps (session (reads start) 0 s .events) t 0 _ _))
 
   pub room : answer start t s .count ≤ slots t
   unfolding answer settle
   room =
-      either (λ (f : Final). f .count ≤ slots t) (ltb limit (length s))
-      (omega arith)
-      (pour-room (session (reads start) 0 s .events) t 0 _ _ (omega arith))
+      by-test (ltb limit (length s))
+      (λ long. rw long (omega arith))
+      (λ fits. rw fits (pour-room (session (reads start) 0 s .events) t 0 _ _ (omega arith)))
 
 -- so that the numbers of its events lie in its table
 pub written : (start : Phase) (t s u : List ℕ) (a : Answer) → finalOf u a ≡ answer start t s → width * a .count ≤ length u
