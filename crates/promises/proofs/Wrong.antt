@@ -13,7 +13,8 @@ use Rattle.events.specs.Events.{ev, numbers, resultNumber, encodingNumber, size
 use Rattle.events.specs.Table.{Final, store, pour, finish, tableOf}
 use Rattle.events.specs.declared.Encoding.the-variants.{Base64}
 use Rattle.events.specs.declared.Outcome.the-variants.{TooDeep}
-use Rattle.fields.specs.Common.{encodingNamed, behindSpaces, transferEncoding, closed, quoted, unquoted, typed, named, bareParameter, parameter, contentType, contentTypeExt, firstEncoding, byType, byExt, byBoundary, scanned, unknown, dashBdry}
+use Rattle.fields.specs.Common.{encodingNamed, behindSpaces, transferEncoding, closed, quoted, unquoted, typed, named, bareParameter, parameter, contentType, contentTypeExt}
+use Rattle.fields.specs.Common.{firstEncoding, byType, byExt, byBoundary, scanned, unknown, dashBdry}
 use Rattle.fields.specs.Imap.{appendFollows, isAppend, dark, trimmed, braced, fromBrace, sizeOf, appendSize, holdsColon}
 use Rattle.fields.specs.Pop3.{stlsAnswer, octets, octetsFollow, numbered, retrAnswer}
 use Rattle.fields.specs.Runs.{runs, lead, last, lastPlace, through, worthBehind, worth, upTo}
@@ -37,6 +38,7 @@ use Rattle.reading.specs.declared.Place.{Place}
 use Rattle.reading.specs.declared.Place.the-variants.{At, Nowhere}
 use Rattle.rules.specs.Imap.{onCommand, onOffered}
 use Rattle.rules.specs.Machine.{turn, go, run as runs-on}
+use Rattle.rules.specs.Mail.{afterMail, plainMail, boundaryFree, begun, onHead, onText}
 use Rattle.rules.specs.Phases.{wants, need}
 use Rattle.rules.specs.Pop3.{onStatus}
 use Rattle.rules.specs.Sessions.{reacts, react, resultOf, placeOf, settle, answer, smtpClient, smtpServer, pop3Server, imapClient}
@@ -64,7 +66,8 @@ says-no =
     ∷ []
 
 pub neither-always-nor-never : (says-yes ≡ replicate 21 true) × (says-no ≡ replicate 21 false)
-unfolding isWhite isBlank isPopWhite isDigit isLetter isUpper upperOf startsWith same endsWith raised contains found first firstPlace stands holds dashBdry isAppend appendFollows lead runs holdsColon stlsAnswer retrAnswer numbered octets octetsFollow worth worthBehind startsWithHelo isMailFrom isData
+unfolding isWhite isBlank isPopWhite isDigit isLetter isUpper upperOf startsWith same endsWith raised contains found first firstPlace stands holds
+    dashBdry isAppend appendFollows lead runs holdsColon stlsAnswer retrAnswer numbered octets octetsFollow worth worthBehind startsWithHelo isMailFrom isData
 neither-always-nor-never = (refl, refl)
 
 -- ---- answers as numbers
@@ -98,12 +101,6 @@ second line.Other = 3 ∷ []
 abbrev known : Option (List ℕ) → List ℕ
 known (some b) = b
 known none = []
-
-abbrev outcome : Final → List ℕ
-outcome f = resultNumber (f .result) ∷ f .place ∷ f .count ∷ f .table
-
-abbrev greeting : List ℕ
-greeting = text "EHLO a\r\nMAIL FROM: <b@c>\r\n"
 
 abbrev leaves : List Row
 leaves =
@@ -151,15 +148,42 @@ leaves =
     (found-at (rcptTo (text "RCPT TO: <b>")) ++ found-at (rcptTo (text "RCPT TO: <b")) is-neither 10 ∷ 2 ∷ [] nor 10 ∷ 1 ∷ 10 ∷ 1 ∷ []) ∷
     []
 
--- the entries and `dissect`: a dissector that refuses everything; one with a constant answer; one that writes nothing; one whose count is made up
+-- ---- the entries and `dissect`
+abbrev outcome : Final → List ℕ
+outcome f = resultNumber (f .result) ∷ f .place ∷ f .count ∷ f .table
+
+abbrev greeting : List ℕ
+greeting = text "EHLO a\r\nMAIL FROM: <b@c>\r\n"
+
+-- a POP3 server's mail, and what is listed of it
+abbrev mail : List ℕ
+mail = text "+OK 1 octets\n\r\n.\r\n"
+
+abbrev listed : List ℕ
+listed = 8 ∷ 0 ∷ 12 ∷ 0 ∷ 1 ∷ 13 ∷ 2 ∷ 0 ∷ 2 ∷ 15 ∷ 0 ∷ 0 ∷ 6 ∷ 15 ∷ 0 ∷ 0 ∷ []
+
 abbrev dissectors : List Row
 dissectors =
+    -- one that refuses everything; one that writes nothing
     (outcome (smtpClient (replicate 4 99) greeting) is-neither 3 ∷ 0 ∷ 0 ∷ replicate 4 99 nor 1 ∷ 26 ∷ 1 ∷ replicate 4 99) ∷
+    -- one with a constant answer; one that writes nothing
     (outcome (smtpServer (replicate 4 99) (text "221\n")) is-neither 1 ∷ 0 ∷ 0 ∷ replicate 4 99 nor 0 ∷ 4 ∷ 1 ∷ replicate 4 99) ∷
-    (outcome (pop3Server (replicate 8 99) (text "+OK\n+OK tls\n")) is-neither 0 ∷ 12 ∷ 1 ∷ 8 ∷ 0 ∷ 3 ∷ 0 ∷ replicate 4 99 nor 0 ∷ 12 ∷ 3 ∷ 8 ∷ 0 ∷ 3 ∷ 0 ∷ 8 ∷ 4 ∷ 7 ∷ 0 ∷ []) ∷
+    -- two whose count is made up
+    (outcome (pop3Server (replicate 8 99) (text "+OK\n+OK tls\n"))
+    is-neither 0 ∷ 12 ∷ 1 ∷ 8 ∷ 0 ∷ 3 ∷ 0 ∷ replicate 4 99
+    nor 0 ∷ 12 ∷ 3 ∷ 8 ∷ 0 ∷ 3 ∷ 0 ∷ 8 ∷ 4 ∷ 7 ∷ 0 ∷ []) ∷
+    -- one that reads the first mail and invents the later one; one that passes it over
+    (outcome (pop3Server (replicate 32 99) (mail ++ mail)) is-neither 1 ∷ 36 ∷ 8 ∷ (listed ++ listed) nor 1 ∷ 36 ∷ 4 ∷ (listed ++ replicate 16 99)) ∷
+    -- one that is done too soon; one that writes nothing
     (outcome (imapClient (replicate 4 99) (text "a\nb")) is-neither 0 ∷ 2 ∷ 1 ∷ 7 ∷ 0 ∷ 1 ∷ 0 ∷ [] nor 1 ∷ 2 ∷ 1 ∷ replicate 4 99) ∷
     []
 
-pub wrong-answers : map met (leaves ++ dissectors) ≡ replicate 26 false
-unfolding answer settle resultOf placeOf react reacts need wants runs-on go turn fetch parted reach past first firstPlace holds stands found contains delimits mayStand startsWith same endsWith raised clean dropEnd upperOf isLetter isUpper isWhite isBlank isPopWhite isDigit store pour finish lead runs last lastPlace through worth worthBehind upTo transferEncoding encodingNamed behindSpaces closed quoted unquoted typed named bareParameter parameter contentType contentTypeExt firstEncoding byType byExt byBoundary scanned dashBdry startsWithHelo isMailFrom secondLine isData upToEnd closingAt mailFrom required rcptTo stlsAnswer octets octetsFollow numbered retrAnswer appendFollows isAppend dark trimmed braced fromBrace sizeOf appendSize holdsColon onHello given bySecond onSecond onRecipient byRecipient onReply onStatus onCommand onOffered guess confirm
+pub wrong-answers : map met (leaves ++ dissectors) ≡ replicate 27 false
+unfolding answer settle resultOf placeOf react reacts need wants runs-on go turn fetch parted reach past first firstPlace holds stands found contains
+    delimits mayStand startsWith same endsWith raised clean dropEnd upperOf isLetter isUpper isWhite isBlank isPopWhite isDigit store pour finish
+    lead runs last lastPlace through worth worthBehind upTo transferEncoding encodingNamed behindSpaces closed quoted unquoted typed named bareParameter
+    parameter contentType contentTypeExt firstEncoding byType byExt byBoundary scanned dashBdry startsWithHelo isMailFrom secondLine isData upToEnd
+    closingAt mailFrom required rcptTo stlsAnswer octets octetsFollow numbered retrAnswer appendFollows isAppend dark trimmed braced fromBrace sizeOf
+    appendSize holdsColon afterMail plainMail boundaryFree begun onHead onText onHello given bySecond onSecond onRecipient byRecipient onReply onStatus
+    onCommand onOffered guess confirm
 wrong-answers = refl

@@ -1,158 +1,217 @@
--- The definition, computed: document 01's small proved set, and stored sessions of the oracle, each with its answer; a table's numbers are 99 before.
+-- The definition, computed: document 01's small proved set, and telling sessions with the answers that the oracle gives.
 -- Assumes nothing.
 use mathlib.Core.Path.{_≡_, refl}
 use mathlib.Core.List.{List, [], _∷_, _++_, map}
-use lib.ListN.{replicate}
+use Prim.Native.Nat.{ℕ, _+_, _*_, _-_}
+use Prim.Native.String.{String}
+use lib.ListN.{length, replicate}
 use Rattle.classes.specs.Classes.{upperOf, isLetter, isUpper, isWhite, isBlank, isPopWhite, isDigit}
-use Rattle.events.specs.Table.{Final, final, store, pour, finish}
-use Rattle.events.specs.declared.Outcome.the-variants.{Done, Incomplete, NoHello, StartTls, NoRecipient, BadDelimiter, SmallLiteral, OpenLiteral, TooDeep, TableFull}
+use Rattle.events.specs.Events.{resultNumber}
+use Rattle.events.specs.Table.{Final, store, pour, finish}
 use Rattle.reading.specs.Text.{text}
 use Rattle.reading.specs.Bytes.{startsWith, same, endsWith, raised, first, firstPlace, holds, stands, found, contains}
 use Rattle.reading.specs.Reading.{clean, dropEnd, mayStand, delimits, past, reach, parted, fetch}
 use Rattle.fields.specs.Runs.{runs, lead, last, lastPlace, through, worthBehind, worth}
-use Rattle.fields.specs.Common.{encodingNamed, behindSpaces, transferEncoding, closed, quoted, unquoted, typed, named, bareParameter, parameter, contentType, contentTypeExt, firstEncoding, byType, byExt, byBoundary, scanned, dashBdry}
+use Rattle.fields.specs.Common.{encodingNamed, behindSpaces, transferEncoding, closed, quoted, unquoted, typed, named, bareParameter, parameter, contentType, contentTypeExt}
+use Rattle.fields.specs.Common.{firstEncoding, byType, byExt, byBoundary, scanned, dashBdry}
 use Rattle.fields.specs.Smtp.{startsWithHelo, isMailFrom, secondLine, isData, upToEnd, closing as closingAt, mailFrom, required, rcptTo}
 use Rattle.fields.specs.Pop3.{stlsAnswer, octets, octetsFollow, numbered, retrAnswer}
 use Rattle.fields.specs.Imap.{appendFollows, isAppend, dark, trimmed, braced, fromBrace, sizeOf, appendSize, holdsColon}
 use Rattle.rules.specs.Machine.{turn, go, run}
 use Rattle.rules.specs.Phases.{wants, need}
-use Rattle.rules.specs.Mail.{afterMail, literalBody, rest, plainMail, boundaryFree, begun, onHead, onText, onLiteral, onPreamble, onOpened, held, whole, contentLength, onContent, outermost, byRest, skip, onBetween, lastLine, popped, onSkipping, onResting}
+use Rattle.rules.specs.Mail.{afterMail, literalBody, rest, plainMail, boundaryFree, begun, onHead, onText, held, whole, onLiteral, onPreamble, onOpened, contentLength, onContent}
+use Rattle.rules.specs.Mail.{outermost, byRest, skip, onBetween, lastLine, popped, onSkipping, onResting}
 use Rattle.rules.specs.Smtp.{onHello, given, bySecond, onSecond, onUser, onPassword, onSender, onSeeking, byRecipient, onRecipient, onReply}
 use Rattle.rules.specs.Pop3.{onStatus}
 use Rattle.rules.specs.Imap.{onCommand, onOffered, onClosing}
-use Rattle.rules.specs.Sessions.{reacts, react, resultOf, placeOf, settle, answer, smtpClient, smtpServer, pop3Server, imapClient}
+use Rattle.rules.specs.Sessions.{reacts, react, resultOf, placeOf, settle, answer, answerOf}
+use Rattle.rules.specs.declared.Entry.{Entry}
+use Rattle.rules.specs.declared.Entry.the-variants.{SmtpClient, SmtpServer, Pop3Server, ImapClient}
 
--- what the definition answers, and what the oracle does
+-- what the definition answers, and what is wanted, as numbers
 record Case : Type 0 where
-  answers : Final
-  wanted : Final
+  answers : List ℕ
+  wanted : List ℕ
 
-abbrev _gives_ : Final → Final → Case
-a gives w = record { answers = a; wanted = w }
+-- an event as it is listed: kind, offset, length, encoding
+abbrev Listed : Type 0
+Listed = ℕ × ℕ × ℕ × ℕ
 
-infix 1 _gives_
--- document 01's example with room, with 7 slots and with 6
+abbrev flat : List Listed → List ℕ
+flat [] = []
+flat (e ∷ es) = e .0 ∷ e .1 ∷ e .2 ∷ e .3 ∷ flat es
+
+-- result, place, count, then the table
+abbrev told : Final → List ℕ
+told f = resultNumber (f .result) ∷ f .place ∷ f .count ∷ f .table
+
+-- a table of n numbers, each 99; the session's bytes; the events wanted, result and place
+abbrev within : ℕ → Entry → List ℕ → List Listed → ℕ → ℕ → Case
+within n e s es r p =
+    record {
+      answers = told (answerOf e (replicate n 99) s);
+      wanted = r ∷ p ∷ length es ∷ (flat es ++ replicate (n - 4 * length es) 99);
+    }
+
+-- a table with a slot over
+abbrev on : Entry → List ℕ → List Listed → ℕ → ℕ → Case
+on e s es r p = within (4 * length es + 4) e s es r p
+
+-- ---- document 01's (*) cases
+
+abbrev mail : List ℕ
+mail = text "EHLO a\r\nMAIL FROM: <b@c>\r\nRCPT TO: <d@e>\r\nDATA\r\nTo: d\r\n\r\nhi\r\n.\r\n"
+
+-- the example with room, with 7 slots and with 6
 abbrev example : List Case
 example =
-    (smtpClient (replicate 32 99) (text "EHLO a\r\nMAIL FROM: <b@c>\r\nRCPT TO: <d@e>\r\nDATA\r\nTo: d\r\n\r\nhi\r\n.\r\n") gives final (11 ∷ 20 ∷ 3 ∷ 0 ∷ 12 ∷ 36 ∷ 3 ∷ 0 ∷ 1 ∷ 48 ∷ 7 ∷ 0 ∷ 1 ∷ 55 ∷ 2 ∷ 0 ∷ 2 ∷ 57 ∷ 0 ∷ 0 ∷ 3 ∷ 57 ∷ 4 ∷ 0 ∷ 6 ∷ 61 ∷ 0 ∷ 0 ∷ 99 ∷ 99 ∷ 99 ∷ 99 ∷ []) Done 64 7) ∷
-    (smtpClient (replicate 29 99) (text "EHLO a\r\nMAIL FROM: <b@c>\r\nRCPT TO: <d@e>\r\nDATA\r\nTo: d\r\n\r\nhi\r\n.\r\n") gives final (11 ∷ 20 ∷ 3 ∷ 0 ∷ 12 ∷ 36 ∷ 3 ∷ 0 ∷ 1 ∷ 48 ∷ 7 ∷ 0 ∷ 1 ∷ 55 ∷ 2 ∷ 0 ∷ 2 ∷ 57 ∷ 0 ∷ 0 ∷ 3 ∷ 57 ∷ 4 ∷ 0 ∷ 6 ∷ 61 ∷ 0 ∷ 0 ∷ 99 ∷ []) Done 64 7) ∷
-    (smtpClient (replicate 25 99) (text "EHLO a\r\nMAIL FROM: <b@c>\r\nRCPT TO: <d@e>\r\nDATA\r\nTo: d\r\n\r\nhi\r\n.\r\n") gives final (11 ∷ 20 ∷ 3 ∷ 0 ∷ 12 ∷ 36 ∷ 3 ∷ 0 ∷ 1 ∷ 48 ∷ 7 ∷ 0 ∷ 1 ∷ 55 ∷ 2 ∷ 0 ∷ 2 ∷ 57 ∷ 0 ∷ 0 ∷ 3 ∷ 57 ∷ 4 ∷ 0 ∷ 99 ∷ []) TableFull 61 6) ∷
+    within 32 SmtpClient mail
+    ((11, 20, 3, 0) ∷ (12, 36, 3, 0) ∷ (1, 48, 7, 0) ∷ (1, 55, 2, 0) ∷ (2, 57, 0, 0) ∷ (3, 57, 4, 0) ∷ (6, 61, 0, 0) ∷ []) 0 64 ∷
+    within 29 SmtpClient mail
+    ((11, 20, 3, 0) ∷ (12, 36, 3, 0) ∷ (1, 48, 7, 0) ∷ (1, 55, 2, 0) ∷ (2, 57, 0, 0) ∷ (3, 57, 4, 0) ∷ (6, 61, 0, 0) ∷ []) 0 64 ∷
+    within 25 SmtpClient mail
+    ((11, 20, 3, 0) ∷ (12, 36, 3, 0) ∷ (1, 48, 7, 0) ∷ (1, 55, 2, 0) ∷ (2, 57, 0, 0) ∷ (3, 57, 4, 0) ∷ []) 10 61 ∷
     []
 
 -- empty buffers
 abbrev empty : List Case
 empty =
-    (smtpClient (replicate 4 99) (text "") gives final (99 ∷ 99 ∷ 99 ∷ 99 ∷ []) Incomplete 0 0) ∷
-    (smtpServer (replicate 4 99) (text "") gives final (99 ∷ 99 ∷ 99 ∷ 99 ∷ []) Incomplete 0 0) ∷
-    (pop3Server (replicate 4 99) (text "") gives final (99 ∷ 99 ∷ 99 ∷ 99 ∷ []) Incomplete 0 0) ∷
-    (imapClient (replicate 4 99) (text "") gives final (99 ∷ 99 ∷ 99 ∷ 99 ∷ []) Incomplete 0 0) ∷
+    on SmtpClient (text "") [] 1 0 ∷
+    on SmtpServer (text "") [] 1 0 ∷
+    on Pop3Server (text "") [] 1 0 ∷
+    on ImapClient (text "") [] 1 0 ∷
     []
 
 -- the answers to RETR
 abbrev retrs : List Case
 retrs =
-    (pop3Server (replicate 24 99) (text "+OK 4294967295 octets\r\nT: u\r\n\r\n.\r\n") gives final (8 ∷ 0 ∷ 21 ∷ 0 ∷ 1 ∷ 23 ∷ 6 ∷ 0 ∷ 1 ∷ 29 ∷ 2 ∷ 0 ∷ 2 ∷ 31 ∷ 0 ∷ 0 ∷ 6 ∷ 31 ∷ 0 ∷ 0 ∷ 99 ∷ 99 ∷ 99 ∷ 99 ∷ []) Incomplete 34 5) ∷
-    (pop3Server (replicate 20 99) (text "+OK 4294967296 octets\r\nT: u\r\n\r\n.\r\n") gives final (8 ∷ 0 ∷ 21 ∷ 0 ∷ 8 ∷ 23 ∷ 4 ∷ 0 ∷ 8 ∷ 29 ∷ 0 ∷ 0 ∷ 8 ∷ 31 ∷ 1 ∷ 0 ∷ 99 ∷ 99 ∷ 99 ∷ 99 ∷ []) Incomplete 34 4) ∷
-    (pop3Server (replicate 24 99) (text "+OK 0000000000007 octetsX\r\nT: u\r\n\r\n.\r\n") gives final (8 ∷ 0 ∷ 25 ∷ 0 ∷ 1 ∷ 27 ∷ 6 ∷ 0 ∷ 1 ∷ 33 ∷ 2 ∷ 0 ∷ 2 ∷ 35 ∷ 0 ∷ 0 ∷ 6 ∷ 35 ∷ 0 ∷ 0 ∷ 99 ∷ 99 ∷ 99 ∷ 99 ∷ []) Incomplete 38 5) ∷
+    on Pop3Server (text "+OK 4294967295 octets\r\nT: u\r\n\r\n.\r\n")
+    ((8, 0, 21, 0) ∷ (1, 23, 6, 0) ∷ (1, 29, 2, 0) ∷ (2, 31, 0, 0) ∷ (6, 31, 0, 0) ∷ []) 1 34 ∷
+    on Pop3Server (text "+OK 4294967296 octets\r\nT: u\r\n\r\n.\r\n")
+    ((8, 0, 21, 0) ∷ (8, 23, 4, 0) ∷ (8, 29, 0, 0) ∷ (8, 31, 1, 0) ∷ []) 1 34 ∷
+    on Pop3Server (text "+OK 0000000000007 octetsX\r\nT: u\r\n\r\n.\r\n")
+    ((8, 0, 25, 0) ∷ (1, 27, 6, 0) ∷ (1, 33, 2, 0) ∷ (2, 35, 0, 0) ∷ (6, 35, 0, 0) ∷ []) 1 38 ∷
     []
 
 -- what stands in an APPEND's braces; a literal larger than its header, as large, smaller
 abbrev literals : List Case
 literals =
-    (imapClient (replicate 28 99) (text "a APPEND x {10}}\r\nT: u\r\n\r\nhi\r\n") gives final (7 ∷ 0 ∷ 16 ∷ 0 ∷ 1 ∷ 18 ∷ 6 ∷ 0 ∷ 1 ∷ 24 ∷ 2 ∷ 0 ∷ 2 ∷ 26 ∷ 0 ∷ 0 ∷ 4 ∷ 26 ∷ 2 ∷ 0 ∷ 6 ∷ 28 ∷ 0 ∷ 0 ∷ 99 ∷ 99 ∷ 99 ∷ 99 ∷ []) Incomplete 30 6) ∷
-    (imapClient (replicate 16 99) (text "a APPEND x {10+}\r\nT: u\r\n\r\nhi\r\n") gives final (7 ∷ 0 ∷ 16 ∷ 0 ∷ 1 ∷ 18 ∷ 6 ∷ 0 ∷ 1 ∷ 24 ∷ 2 ∷ 0 ∷ 99 ∷ 99 ∷ 99 ∷ 99 ∷ []) SmallLiteral 26 3) ∷
-    (imapClient (replicate 16 99) (text "a APPEND x {}\r\nT: u\r\n\r\nhi\r\n") gives final (7 ∷ 0 ∷ 13 ∷ 0 ∷ 1 ∷ 15 ∷ 6 ∷ 0 ∷ 1 ∷ 21 ∷ 2 ∷ 0 ∷ 99 ∷ 99 ∷ 99 ∷ 99 ∷ []) SmallLiteral 23 3) ∷
-    (imapClient (replicate 16 99) (text "a APPEND x {18446744073709551616}\r\nT: u\r\n\r\nhi\r\n") gives final (7 ∷ 0 ∷ 33 ∷ 0 ∷ 1 ∷ 35 ∷ 6 ∷ 0 ∷ 1 ∷ 41 ∷ 2 ∷ 0 ∷ 99 ∷ 99 ∷ 99 ∷ 99 ∷ []) SmallLiteral 43 3) ∷
-    (imapClient (replicate 28 99) (text "a APPEND x {11}\r\nT: u\r\n\r\nhey\r\n") gives final (7 ∷ 0 ∷ 15 ∷ 0 ∷ 1 ∷ 17 ∷ 6 ∷ 0 ∷ 1 ∷ 23 ∷ 2 ∷ 0 ∷ 2 ∷ 25 ∷ 0 ∷ 0 ∷ 4 ∷ 25 ∷ 3 ∷ 0 ∷ 6 ∷ 28 ∷ 0 ∷ 0 ∷ 99 ∷ 99 ∷ 99 ∷ 99 ∷ []) Incomplete 30 6) ∷
-    (imapClient (replicate 24 99) (text "a APPEND x {08}\r\nT: u\r\n\r\nhey\r\n") gives final (7 ∷ 0 ∷ 15 ∷ 0 ∷ 1 ∷ 17 ∷ 6 ∷ 0 ∷ 1 ∷ 23 ∷ 2 ∷ 0 ∷ 2 ∷ 25 ∷ 0 ∷ 0 ∷ 6 ∷ 25 ∷ 0 ∷ 0 ∷ 99 ∷ 99 ∷ 99 ∷ 99 ∷ []) OpenLiteral 25 5) ∷
-    (imapClient (replicate 16 99) (text "a APPEND x {07}\r\nT: u\r\n\r\nhey\r\n") gives final (7 ∷ 0 ∷ 15 ∷ 0 ∷ 1 ∷ 17 ∷ 6 ∷ 0 ∷ 1 ∷ 23 ∷ 2 ∷ 0 ∷ 99 ∷ 99 ∷ 99 ∷ 99 ∷ []) SmallLiteral 25 3) ∷
+    on ImapClient (text "a APPEND x {10}}\r\nT: u\r\n\r\nhi\r\n")
+    ((7, 0, 16, 0) ∷ (1, 18, 6, 0) ∷ (1, 24, 2, 0) ∷ (2, 26, 0, 0) ∷ (4, 26, 2, 0) ∷ (6, 28, 0, 0) ∷ []) 1 30 ∷
+    on ImapClient (text "a APPEND x {10+}\r\nT: u\r\n\r\nhi\r\n") ((7, 0, 16, 0) ∷ (1, 18, 6, 0) ∷ (1, 24, 2, 0) ∷ []) 7 26 ∷
+    on ImapClient (text "a APPEND x {}\r\nT: u\r\n\r\nhi\r\n") ((7, 0, 13, 0) ∷ (1, 15, 6, 0) ∷ (1, 21, 2, 0) ∷ []) 7 23 ∷
+    on ImapClient (text "a APPEND x {18446744073709551616}\r\nT: u\r\n\r\nhi\r\n") ((7, 0, 33, 0) ∷ (1, 35, 6, 0) ∷ (1, 41, 2, 0) ∷ []) 7 43 ∷
+    on ImapClient (text "a APPEND x {11}\r\nT: u\r\n\r\nhey\r\n")
+    ((7, 0, 15, 0) ∷ (1, 17, 6, 0) ∷ (1, 23, 2, 0) ∷ (2, 25, 0, 0) ∷ (4, 25, 3, 0) ∷ (6, 28, 0, 0) ∷ []) 1 30 ∷
+    on ImapClient (text "a APPEND x {08}\r\nT: u\r\n\r\nhey\r\n")
+    ((7, 0, 15, 0) ∷ (1, 17, 6, 0) ∷ (1, 23, 2, 0) ∷ (2, 25, 0, 0) ∷ (6, 25, 0, 0) ∷ []) 8 25 ∷
+    on ImapClient (text "a APPEND x {07}\r\nT: u\r\n\r\nhey\r\n") ((7, 0, 15, 0) ∷ (1, 17, 6, 0) ∷ (1, 23, 2, 0) ∷ []) 7 25 ∷
     []
 
 -- boundary q: content, none of it, and no delimiter
 abbrev parts : List Case
 parts =
-    (pop3Server (replicate 32 99) (text "+OK 1 octets\r\nContent-Type: boundary=q\r\n\r\n--q\r\n\r\nabc\r\n--q") gives final (8 ∷ 0 ∷ 12 ∷ 0 ∷ 1 ∷ 14 ∷ 26 ∷ 0 ∷ 1 ∷ 40 ∷ 2 ∷ 0 ∷ 1 ∷ 47 ∷ 2 ∷ 0 ∷ 2 ∷ 49 ∷ 0 ∷ 0 ∷ 5 ∷ 49 ∷ 3 ∷ 0 ∷ 6 ∷ 52 ∷ 0 ∷ 0 ∷ 99 ∷ 99 ∷ 99 ∷ 99 ∷ []) Incomplete 57 7) ∷
-    (pop3Server (replicate 28 99) (text "+OK 1 octets\r\nContent-Type: boundary=q\r\n\r\n--q\r\n\r\n--q") gives final (8 ∷ 0 ∷ 12 ∷ 0 ∷ 1 ∷ 14 ∷ 26 ∷ 0 ∷ 1 ∷ 40 ∷ 2 ∷ 0 ∷ 1 ∷ 47 ∷ 2 ∷ 0 ∷ 2 ∷ 49 ∷ 0 ∷ 0 ∷ 6 ∷ 49 ∷ 0 ∷ 0 ∷ 99 ∷ 99 ∷ 99 ∷ 99 ∷ []) Incomplete 52 6) ∷
-    (pop3Server (replicate 24 99) (text "+OK 1 octets\r\nContent-Type: boundary=q\r\n\r\n--q\r\n\r\nx--q") gives final (8 ∷ 0 ∷ 12 ∷ 0 ∷ 1 ∷ 14 ∷ 26 ∷ 0 ∷ 1 ∷ 40 ∷ 2 ∷ 0 ∷ 1 ∷ 47 ∷ 2 ∷ 0 ∷ 2 ∷ 49 ∷ 0 ∷ 0 ∷ 99 ∷ 99 ∷ 99 ∷ 99 ∷ []) Incomplete 49 5) ∷
+    on Pop3Server (text "+OK 1 octets\r\nContent-Type: boundary=q\r\n\r\n--q\r\n\r\nabc\r\n--q")
+    ((8, 0, 12, 0) ∷ (1, 14, 26, 0) ∷ (1, 40, 2, 0) ∷ (1, 47, 2, 0) ∷ (2, 49, 0, 0) ∷ (5, 49, 3, 0) ∷ (6, 52, 0, 0) ∷ []) 1 57 ∷
+    on Pop3Server (text "+OK 1 octets\r\nContent-Type: boundary=q\r\n\r\n--q\r\n\r\n--q")
+    ((8, 0, 12, 0) ∷ (1, 14, 26, 0) ∷ (1, 40, 2, 0) ∷ (1, 47, 2, 0) ∷ (2, 49, 0, 0) ∷ (6, 49, 0, 0) ∷ []) 1 52 ∷
+    on Pop3Server (text "+OK 1 octets\r\nContent-Type: boundary=q\r\n\r\n--q\r\n\r\nx--q")
+    ((8, 0, 12, 0) ∷ (1, 14, 26, 0) ∷ (1, 40, 2, 0) ∷ (1, 47, 2, 0) ∷ (2, 49, 0, 0) ∷ []) 1 49 ∷
     []
 
--- document 01's (*) cases
 abbrev small : List Case
 small = example ++ empty ++ retrs ++ literals ++ parts
 
--- delimiters before a first part, and `--qq`; a retrieval without white space; a dot line in a header
-abbrev delimiters : List Case
-delimiters =
-    (pop3Server (replicate 16 99) (text "+OK 1 octets\r\nContent-Type: boundary=q\r\n\r\nabc\r\n--q\r\n") gives final (8 ∷ 0 ∷ 12 ∷ 0 ∷ 1 ∷ 14 ∷ 26 ∷ 0 ∷ 1 ∷ 40 ∷ 2 ∷ 0 ∷ 99 ∷ 99 ∷ 99 ∷ 99 ∷ []) Incomplete 52 3) ∷
-    (pop3Server (replicate 16 99) (text "+OK 1 octets\r\nContent-Type: boundary=q\r\n\r\n--q\r\n") gives final (8 ∷ 0 ∷ 12 ∷ 0 ∷ 1 ∷ 14 ∷ 26 ∷ 0 ∷ 1 ∷ 40 ∷ 2 ∷ 0 ∷ 99 ∷ 99 ∷ 99 ∷ 99 ∷ []) Incomplete 47 3) ∷
-    (pop3Server (replicate 16 99) (text "+OK 1 octets\r\nContent-Type: boundary=q\r\n\r\nx--q\r\n") gives final (8 ∷ 0 ∷ 12 ∷ 0 ∷ 1 ∷ 14 ∷ 26 ∷ 0 ∷ 1 ∷ 40 ∷ 2 ∷ 0 ∷ 99 ∷ 99 ∷ 99 ∷ 99 ∷ []) Incomplete 42 3) ∷
-    (pop3Server (replicate 16 99) (text "+OK 1 octets\r\nContent-Type: boundary=q\r\n\r\n--qq\r\n") gives final (8 ∷ 0 ∷ 12 ∷ 0 ∷ 1 ∷ 14 ∷ 26 ∷ 0 ∷ 1 ∷ 40 ∷ 2 ∷ 0 ∷ 99 ∷ 99 ∷ 99 ∷ 99 ∷ []) BadDelimiter 45 3) ∷
-    (pop3Server (replicate 20 99) (text "+OK12 octets\r\nT: u\r\n\r\n.\r\n") gives final (8 ∷ 0 ∷ 12 ∷ 0 ∷ 8 ∷ 14 ∷ 4 ∷ 0 ∷ 8 ∷ 20 ∷ 0 ∷ 0 ∷ 8 ∷ 22 ∷ 1 ∷ 0 ∷ 99 ∷ 99 ∷ 99 ∷ 99 ∷ []) Incomplete 25 4) ∷
-    (pop3Server (replicate 32 99) (text "+OK 1 octets\r\nT: u\r\n.\r\n\r\nhi\r\n.\r\n") gives final (8 ∷ 0 ∷ 12 ∷ 0 ∷ 1 ∷ 14 ∷ 6 ∷ 0 ∷ 1 ∷ 20 ∷ 3 ∷ 0 ∷ 1 ∷ 23 ∷ 2 ∷ 0 ∷ 2 ∷ 25 ∷ 0 ∷ 0 ∷ 3 ∷ 25 ∷ 4 ∷ 0 ∷ 6 ∷ 29 ∷ 0 ∷ 0 ∷ 99 ∷ 99 ∷ 99 ∷ 99 ∷ []) Incomplete 32 7) ∷
+-- ---- telling sessions: each is the case of a sentence that an edit of the rules could bend
+
+-- a multipart, opened inside whatever is open
+abbrev opens : String → List ℕ
+opens b = text "Content-Type: boundary=" ++ (text b ++ (text "\r\n\r\n--" ++ (text b ++ text "\r\n")))
+
+-- SMTP
+abbrev envelopes : List Case
+envelopes =
+    -- a login, a mail whose dots stay doubled
+    on SmtpClient (text "Helo d\r\nAuth Login\r\nu\r\np\r\nMAIL FROM: <a>\r\nRCPT TO: <b>\r\nData\r\n\r\n..\r\n.\r\n")
+    ((9, 20, 1, 0) ∷ (10, 23, 1, 0) ∷ (11, 38, 1, 0) ∷ (12, 52, 1, 0) ∷ (1, 62, 2, 0) ∷ (2, 64, 0, 0) ∷ (3, 64, 4, 0) ∷ (6, 68, 0, 0) ∷ []) 0 71 ∷
+    -- lines skipped, a sender that fails, a recipient that fails
+    on SmtpClient (text "EHLO\nNOOP\nmail from:<a>\nRCPT TO:<b>\n") [] 5 24 ∷
+    -- STARTTLS
+    on SmtpClient (text "ehlo\r\nstarttls\r\n") [] 4 6 ∷
+    -- a server's lines, up to 221
+    on SmtpServer (text "250-a\n\r\n221\n") ((8, 0, 5, 0) ∷ (8, 6, 0, 0) ∷ (8, 8, 3, 0) ∷ []) 0 12 ∷
     []
 
--- eight levels, and a ninth
-abbrev levels : List Case
-levels =
-    (pop3Server (replicate 88 99) (text "+OK 1 octets\r\nContent-Type: boundary=1\r\n\r\n--1\r\nContent-Type: boundary=2\r\n\r\n--2\r\nContent-Type: boundary=3\r\n\r\n--3\r\nContent-Type: boundary=4\r\n\r\n--4\r\nContent-Type: boundary=5\r\n\r\n--5\r\nContent-Type: boundary=6\r\n\r\n--6\r\nContent-Type: boundary=7\r\n\r\n--7\r\nContent-Type: boundary=8\r\n\r\n--8\r\n\r\nx\r\n--8--\r\n") gives final (8 ∷ 0 ∷ 12 ∷ 0 ∷ 1 ∷ 14 ∷ 26 ∷ 0 ∷ 1 ∷ 40 ∷ 2 ∷ 0 ∷ 1 ∷ 47 ∷ 26 ∷ 0 ∷ 1 ∷ 73 ∷ 2 ∷ 0 ∷ 1 ∷ 80 ∷ 26 ∷ 0 ∷ 1 ∷ 106 ∷ 2 ∷ 0 ∷ 1 ∷ 113 ∷ 26 ∷ 0 ∷ 1 ∷ 139 ∷ 2 ∷ 0 ∷ 1 ∷ 146 ∷ 26 ∷ 0 ∷ 1 ∷ 172 ∷ 2 ∷ 0 ∷ 1 ∷ 179 ∷ 26 ∷ 0 ∷ 1 ∷ 205 ∷ 2 ∷ 0 ∷ 1 ∷ 212 ∷ 26 ∷ 0 ∷ 1 ∷ 238 ∷ 2 ∷ 0 ∷ 1 ∷ 245 ∷ 26 ∷ 0 ∷ 1 ∷ 271 ∷ 2 ∷ 0 ∷ 1 ∷ 278 ∷ 2 ∷ 0 ∷ 2 ∷ 280 ∷ 0 ∷ 0 ∷ 5 ∷ 280 ∷ 1 ∷ 0 ∷ 6 ∷ 281 ∷ 0 ∷ 0 ∷ 99 ∷ 99 ∷ 99 ∷ 99 ∷ []) Incomplete 290 21) ∷
-    (pop3Server (replicate 80 99) (text "+OK 1 octets\r\nContent-Type: boundary=1\r\n\r\n--1\r\nContent-Type: boundary=2\r\n\r\n--2\r\nContent-Type: boundary=3\r\n\r\n--3\r\nContent-Type: boundary=4\r\n\r\n--4\r\nContent-Type: boundary=5\r\n\r\n--5\r\nContent-Type: boundary=6\r\n\r\n--6\r\nContent-Type: boundary=7\r\n\r\n--7\r\nContent-Type: boundary=8\r\n\r\n--8\r\nContent-Type: boundary=9\r\n\r\n") gives final (8 ∷ 0 ∷ 12 ∷ 0 ∷ 1 ∷ 14 ∷ 26 ∷ 0 ∷ 1 ∷ 40 ∷ 2 ∷ 0 ∷ 1 ∷ 47 ∷ 26 ∷ 0 ∷ 1 ∷ 73 ∷ 2 ∷ 0 ∷ 1 ∷ 80 ∷ 26 ∷ 0 ∷ 1 ∷ 106 ∷ 2 ∷ 0 ∷ 1 ∷ 113 ∷ 26 ∷ 0 ∷ 1 ∷ 139 ∷ 2 ∷ 0 ∷ 1 ∷ 146 ∷ 26 ∷ 0 ∷ 1 ∷ 172 ∷ 2 ∷ 0 ∷ 1 ∷ 179 ∷ 26 ∷ 0 ∷ 1 ∷ 205 ∷ 2 ∷ 0 ∷ 1 ∷ 212 ∷ 26 ∷ 0 ∷ 1 ∷ 238 ∷ 2 ∷ 0 ∷ 1 ∷ 245 ∷ 26 ∷ 0 ∷ 1 ∷ 271 ∷ 2 ∷ 0 ∷ 1 ∷ 278 ∷ 26 ∷ 0 ∷ 1 ∷ 304 ∷ 2 ∷ 0 ∷ 99 ∷ 99 ∷ 99 ∷ 99 ∷ []) TooDeep 306 19) ∷
+-- mails without a boundary
+abbrev mails : List Case
+mails =
+    -- a dot line in a header, the first valid encoding, bare LFs, the mail's end, the session's
+    on Pop3Server (text "+OK 2 octets\r\nA: b\r\n.\r\nContent-Transfer-Encoding: x\r\nContent-Transfer-Encoding: BASE64\r\nContent-Transfer-Encoding: 7bit\r\n\r\nhi\n.\n.\r\n+OK\r\n+OK STLS\r\n")
+    ((8, 0, 12, 0) ∷ (1, 14, 6, 0) ∷ (1, 20, 3, 0) ∷ (1, 23, 30, 0) ∷ (1, 53, 35, 0) ∷ (1, 88, 33, 0) ∷ (1, 121, 2, 0) ∷ (2, 123, 0, 0)
+    ∷ (3, 123, 3, 5) ∷ (3, 126, 2, 5) ∷ (6, 128, 0, 0) ∷ (8, 131, 3, 0) ∷ (8, 136, 8, 0) ∷ []) 0 146 ∷
+    -- a line that is only peeked at and has no colon is a command
+    on ImapClient (text "a APPEND {99}\r\nb\r\n:\n") ((7, 0, 13, 0) ∷ (7, 15, 1, 0) ∷ (7, 18, 1, 0) ∷ []) 1 20 ∷
     []
 
--- SMTP clients
-abbrev clients : List Case
-clients =
-    (smtpClient (replicate 4 99) (text "\n") gives final (99 ∷ 99 ∷ 99 ∷ 99 ∷ []) NoHello 0 0) ∷
-    (smtpClient (replicate 4 99) (text "Helo d\r\nSTARTTLS\r\n") gives final (99 ∷ 99 ∷ 99 ∷ 99 ∷ []) StartTls 8 0) ∷
-    (smtpClient (replicate 1 99) (text "HELO\nMAIL FROM:\nDATA\n\r\n---") gives final (99 ∷ []) TableFull 21 0) ∷
-    (smtpClient (replicate 16 99) (text "HELO\nMAIL FROM:\nDATA\n\r\n.\r\n") gives final (1 ∷ 21 ∷ 2 ∷ 0 ∷ 2 ∷ 23 ∷ 0 ∷ 0 ∷ 6 ∷ 23 ∷ 0 ∷ 0 ∷ 99 ∷ 99 ∷ 99 ∷ 99 ∷ []) Done 26 3) ∷
-    (smtpClient (replicate 12 99) (text "EHLO a\r\nAuth Login\r\ndX\n--b\r\r\n") gives final (9 ∷ 20 ∷ 2 ∷ 0 ∷ 10 ∷ 23 ∷ 4 ∷ 0 ∷ 99 ∷ 99 ∷ 99 ∷ 99 ∷ []) Incomplete 29 2) ∷
-    (smtpClient (replicate 20 99) (text "HELO\nMAIL FROM:\nDATA\n\r\n\r\n.\r\n\r\n") gives final (1 ∷ 21 ∷ 2 ∷ 0 ∷ 2 ∷ 23 ∷ 0 ∷ 0 ∷ 3 ∷ 23 ∷ 2 ∷ 0 ∷ 6 ∷ 25 ∷ 0 ∷ 0 ∷ 99 ∷ 99 ∷ 99 ∷ 99 ∷ []) Done 28 4) ∷
-    (smtpClient (replicate 4 99) (text "Helo d\r\nMAIL FROM:\r\nDAT\r\nConten") gives final (99 ∷ 99 ∷ 99 ∷ 99 ∷ []) NoRecipient 20 0) ∷
-    (smtpClient (replicate 8 99) (text "Helo d\r\nMAIL FROM: <b@c>\r\nDATAX\r\nS") gives final (11 ∷ 20 ∷ 3 ∷ 0 ∷ 99 ∷ 99 ∷ 99 ∷ 99 ∷ []) NoRecipient 26 1) ∷
-    (smtpClient (replicate 20 99) (text "EHLO a\r\nMAIL FROM: <b@c>\r\nData\r\n\r\n.\r\n") gives final (11 ∷ 20 ∷ 3 ∷ 0 ∷ 1 ∷ 32 ∷ 2 ∷ 0 ∷ 2 ∷ 34 ∷ 0 ∷ 0 ∷ 6 ∷ 34 ∷ 0 ∷ 0 ∷ 99 ∷ 99 ∷ 99 ∷ 99 ∷ []) Done 37 4) ∷
-    (smtpClient (replicate 16 99) (text "Helo d\r\nAuth Login\r\n\r\ndXNlcg==\r\nMAIL FROM: <\r\n") gives final (9 ∷ 20 ∷ 0 ∷ 0 ∷ 10 ∷ 22 ∷ 8 ∷ 0 ∷ 11 ∷ 44 ∷ 0 ∷ 0 ∷ 99 ∷ 99 ∷ 99 ∷ 99 ∷ []) Incomplete 46 3) ∷
-    (smtpClient (replicate 12 99) (text "HELO\nMAIL FROM:\nDATA\nContent-Type: boundary= \r\n\r\n--q\"") gives final (1 ∷ 21 ∷ 26 ∷ 0 ∷ 1 ∷ 47 ∷ 2 ∷ 0 ∷ 99 ∷ 99 ∷ 99 ∷ 99 ∷ []) BadDelimiter 51 2) ∷
-    (smtpClient (replicate 24 99) (text "ehlo c\r\nMAIL FROM: <b@c>\r\nRCPT TO: <d@e>\r\nDATA\r\n\r\n.\r\n") gives final (11 ∷ 20 ∷ 3 ∷ 0 ∷ 12 ∷ 36 ∷ 3 ∷ 0 ∷ 1 ∷ 48 ∷ 2 ∷ 0 ∷ 2 ∷ 50 ∷ 0 ∷ 0 ∷ 6 ∷ 50 ∷ 0 ∷ 0 ∷ 99 ∷ 99 ∷ 99 ∷ 99 ∷ []) Done 53 5) ∷
-    (smtpClient (replicate 12 99) (text "HELO b\r\nMAIL FROM: <b@c>\r\nRCPT TO: <d@e>\r\n DATA\r\nTo: d\r\nSubje") gives final (11 ∷ 20 ∷ 3 ∷ 0 ∷ 12 ∷ 36 ∷ 3 ∷ 0 ∷ 99 ∷ 99 ∷ 99 ∷ 99 ∷ []) NoRecipient 42 2) ∷
+abbrev eight : List ℕ → List ℕ
+eight s = text "+OK 1 octets\r\n" ++ (opens "1" ++ (opens "2" ++ (opens "3" ++ (opens "4" ++ (opens "5" ++ (opens "6" ++ (opens "7" ++ (opens "8" ++ s))))))))
+
+-- multiparts
+abbrev multiparts : List Case
+multiparts =
+    -- `--qq` is a delimiter of q
+    on Pop3Server (text "+OK 1 octets\r\nContent-Type: boundary=q\r\n\r\n--qq\r\n") ((8, 0, 12, 0) ∷ (1, 14, 26, 0) ∷ (1, 40, 2, 0) ∷ []) 6 45 ∷
+    -- behind an inner close: lines up to the outermost boundary, then a header of the level outside; behind the outermost close a dot line
+    on SmtpClient (text "EHLO\nMAIL FROM:\nDATA\n" ++ (opens "q" ++ (opens "r" ++ text "\r\n--r--\r\n--r\r\n--q\r\n\r\nx\r\n--q--\r\n.\r\n")))
+    ((1, 21, 26, 0) ∷ (1, 47, 2, 0) ∷ (1, 54, 26, 0) ∷ (1, 80, 2, 0) ∷ (1, 87, 2, 0) ∷ (2, 89, 0, 0) ∷ (6, 89, 0, 0) ∷ (1, 106, 2, 0)
+    ∷ (2, 108, 0, 0) ∷ (5, 108, 1, 0) ∷ (6, 109, 0, 0) ∷ []) 0 121 ∷
+    -- a folded boundary, a preamble, a dot line as content, a part without content, lines behind the close, a dot line, the next status
+    on Pop3Server (text "+OK 1 octets\r\nContent-Type: a\r\n\tboundary=\"q\"\r\n\r\np\r\n--q\r\n\r\n.\r\n--q\r\nContent-Transfer-Encoding: 8bit\r\n\r\n--q--x\r\ny\r\n.\r\n+OK\r\n")
+    ((8, 0, 12, 0) ∷ (1, 14, 17, 0) ∷ (1, 31, 15, 0) ∷ (1, 46, 2, 0) ∷ (1, 56, 2, 0) ∷ (2, 58, 0, 0) ∷ (5, 58, 1, 0) ∷ (6, 59, 0, 0)
+    ∷ (1, 66, 33, 0) ∷ (1, 99, 2, 0) ∷ (2, 101, 0, 0) ∷ (6, 101, 0, 0) ∷ (8, 115, 3, 0) ∷ []) 1 120 ∷
+    -- eight levels
+    on Pop3Server (eight (text "\r\nx\r\n--8--\r\n"))
+    ((8, 0, 12, 0) ∷ (1, 14, 26, 0) ∷ (1, 40, 2, 0) ∷ (1, 47, 26, 0) ∷ (1, 73, 2, 0) ∷ (1, 80, 26, 0) ∷ (1, 106, 2, 0) ∷ (1, 113, 26, 0)
+    ∷ (1, 139, 2, 0) ∷ (1, 146, 26, 0) ∷ (1, 172, 2, 0) ∷ (1, 179, 26, 0) ∷ (1, 205, 2, 0) ∷ (1, 212, 26, 0) ∷ (1, 238, 2, 0) ∷ (1, 245, 26, 0)
+    ∷ (1, 271, 2, 0) ∷ (1, 278, 2, 0) ∷ (2, 280, 0, 0) ∷ (5, 280, 1, 0) ∷ (6, 281, 0, 0) ∷ []) 1 290 ∷
+    -- a ninth
+    on Pop3Server (eight (text "Content-Type: boundary=9\r\n\r\n"))
+    ((8, 0, 12, 0) ∷ (1, 14, 26, 0) ∷ (1, 40, 2, 0) ∷ (1, 47, 26, 0) ∷ (1, 73, 2, 0) ∷ (1, 80, 26, 0) ∷ (1, 106, 2, 0) ∷ (1, 113, 26, 0)
+    ∷ (1, 139, 2, 0) ∷ (1, 146, 26, 0) ∷ (1, 172, 2, 0) ∷ (1, 179, 26, 0) ∷ (1, 205, 2, 0) ∷ (1, 212, 26, 0) ∷ (1, 238, 2, 0) ∷ (1, 245, 26, 0)
+    ∷ (1, 271, 2, 0) ∷ (1, 278, 26, 0) ∷ (1, 304, 2, 0) ∷ []) 9 306 ∷
     []
 
--- SMTP and POP3 servers
-abbrev servers : List Case
-servers =
-    (pop3Server (replicate 1 99) (text "\n;\n") gives final (99 ∷ []) TableFull 0 0) ∷
-    (smtpServer (replicate 1 99) (text "\n\r22") gives final (99 ∷ []) TableFull 0 0) ∷
-    (smtpServer (replicate 8 99) (text "221\n") gives final (8 ∷ 0 ∷ 3 ∷ 0 ∷ 99 ∷ 99 ∷ 99 ∷ 99 ∷ []) Done 4 1) ∷
-    (smtpServer (replicate 8 99) (text "221\r\n") gives final (8 ∷ 0 ∷ 3 ∷ 0 ∷ 99 ∷ 99 ∷ 99 ∷ 99 ∷ []) Done 5 1) ∷
-    (pop3Server (replicate 8 99) (text "+OKtls\r\n") gives final (8 ∷ 0 ∷ 6 ∷ 0 ∷ 99 ∷ 99 ∷ 99 ∷ 99 ∷ []) Done 8 1) ∷
-    (pop3Server (replicate 20 99) (text "+OK 0 octets\r\n\r\n.\r\n") gives final (8 ∷ 0 ∷ 12 ∷ 0 ∷ 1 ∷ 14 ∷ 2 ∷ 0 ∷ 2 ∷ 16 ∷ 0 ∷ 0 ∷ 6 ∷ 16 ∷ 0 ∷ 0 ∷ 99 ∷ 99 ∷ 99 ∷ 99 ∷ []) Incomplete 19 4) ∷
-    (pop3Server (replicate 24 99) (text "+OK 12\toctets\r\n\r\n..\r\r\n.\r\n") gives final (8 ∷ 0 ∷ 13 ∷ 0 ∷ 1 ∷ 15 ∷ 2 ∷ 0 ∷ 2 ∷ 17 ∷ 0 ∷ 0 ∷ 3 ∷ 17 ∷ 5 ∷ 0 ∷ 6 ∷ 22 ∷ 0 ∷ 0 ∷ 99 ∷ 99 ∷ 99 ∷ 99 ∷ []) Incomplete 25 5) ∷
-    (pop3Server (replicate 40 99) (text "+OK 0  octets\r\nFrom: b@c\r\n\r\n.\r\nx: y\r\n\r\n.\r\n+OKtls\r\n") gives final (8 ∷ 0 ∷ 13 ∷ 0 ∷ 1 ∷ 15 ∷ 11 ∷ 0 ∷ 1 ∷ 26 ∷ 2 ∷ 0 ∷ 2 ∷ 28 ∷ 0 ∷ 0 ∷ 6 ∷ 28 ∷ 0 ∷ 0 ∷ 8 ∷ 31 ∷ 4 ∷ 0 ∷ 8 ∷ 37 ∷ 0 ∷ 0 ∷ 8 ∷ 39 ∷ 1 ∷ 0 ∷ 8 ∷ 42 ∷ 6 ∷ 0 ∷ 99 ∷ 99 ∷ 99 ∷ 99 ∷ []) Done 50 9) ∷
-    (pop3Server (replicate 28 99) (text "+OK 1 octets\r\nContent-Type: boundary=q\r\n\r\n--q\r\n\r\n--q\n\n") gives final (8 ∷ 0 ∷ 12 ∷ 0 ∷ 1 ∷ 14 ∷ 26 ∷ 0 ∷ 1 ∷ 40 ∷ 2 ∷ 0 ∷ 1 ∷ 47 ∷ 2 ∷ 0 ∷ 2 ∷ 49 ∷ 0 ∷ 0 ∷ 6 ∷ 49 ∷ 0 ∷ 0 ∷ 99 ∷ 99 ∷ 99 ∷ 99 ∷ []) BadDelimiter 52 6) ∷
-    (pop3Server (replicate 28 99) (text "+OK 0 octets\r\nContent-Transfer-Encoding: BASE64\r\n\r\nhi\r\n.\r\n") gives final (8 ∷ 0 ∷ 12 ∷ 0 ∷ 1 ∷ 14 ∷ 35 ∷ 0 ∷ 1 ∷ 49 ∷ 2 ∷ 0 ∷ 2 ∷ 51 ∷ 0 ∷ 0 ∷ 3 ∷ 51 ∷ 4 ∷ 5 ∷ 6 ∷ 55 ∷ 0 ∷ 0 ∷ 99 ∷ 99 ∷ 99 ∷ 99 ∷ []) Incomplete 58 6) ∷
-    []
-
--- IMAP clients
-abbrev appends : List Case
-appends =
-    (imapClient (replicate 1 99) (text "\r\n:") gives final (99 ∷ []) TableFull 0 0) ∷
-    (imapClient (replicate 12 99) (text "a APPEND\r\na: b\r\n") gives final (7 ∷ 0 ∷ 8 ∷ 0 ∷ 1 ∷ 10 ∷ 6 ∷ 0 ∷ 99 ∷ 99 ∷ 99 ∷ 99 ∷ []) Incomplete 16 2) ∷
-    (imapClient (replicate 24 99) (text "A001 APPEND{9}\r\nTo: d\r\n\r\n\r\n") gives final (7 ∷ 0 ∷ 14 ∷ 0 ∷ 1 ∷ 16 ∷ 7 ∷ 0 ∷ 1 ∷ 23 ∷ 2 ∷ 0 ∷ 2 ∷ 25 ∷ 0 ∷ 0 ∷ 6 ∷ 25 ∷ 0 ∷ 0 ∷ 99 ∷ 99 ∷ 99 ∷ 99 ∷ []) Incomplete 27 5) ∷
-    (imapClient (replicate 28 99) (text "a APPEND {12}\r\n::}:\n\r\n::::\r\n") gives final (7 ∷ 0 ∷ 13 ∷ 0 ∷ 1 ∷ 15 ∷ 5 ∷ 0 ∷ 1 ∷ 20 ∷ 2 ∷ 0 ∷ 2 ∷ 22 ∷ 0 ∷ 0 ∷ 4 ∷ 22 ∷ 5 ∷ 0 ∷ 6 ∷ 27 ∷ 0 ∷ 0 ∷ 99 ∷ 99 ∷ 99 ∷ 99 ∷ []) Incomplete 27 6) ∷
-    (imapClient (replicate 28 99) (text "a APPEND {12}\r\n\u{b}:+a\r\n\r\n--q 4:") gives final (7 ∷ 0 ∷ 13 ∷ 0 ∷ 1 ∷ 15 ∷ 6 ∷ 0 ∷ 1 ∷ 21 ∷ 2 ∷ 0 ∷ 2 ∷ 23 ∷ 0 ∷ 0 ∷ 4 ∷ 23 ∷ 4 ∷ 0 ∷ 6 ∷ 27 ∷ 0 ∷ 0 ∷ 99 ∷ 99 ∷ 99 ∷ 99 ∷ []) OpenLiteral 27 6) ∷
-    (imapClient (replicate 20 99) (text "a APPEND {30}\r\nContent-Type: x\n\tboundary=\r\n\r\n--q\";") gives final (7 ∷ 0 ∷ 13 ∷ 0 ∷ 1 ∷ 15 ∷ 16 ∷ 0 ∷ 1 ∷ 31 ∷ 12 ∷ 0 ∷ 1 ∷ 43 ∷ 2 ∷ 0 ∷ 99 ∷ 99 ∷ 99 ∷ 99 ∷ []) BadDelimiter 47 4) ∷
-    (imapClient (replicate 28 99) (text "A001 APPEND x {37}\r\nContent-Transfer-Encoding: 7bit\r\n\r\n\r\n\r\n") gives final (7 ∷ 0 ∷ 18 ∷ 0 ∷ 1 ∷ 20 ∷ 33 ∷ 0 ∷ 1 ∷ 53 ∷ 2 ∷ 0 ∷ 2 ∷ 55 ∷ 0 ∷ 0 ∷ 4 ∷ 55 ∷ 2 ∷ 1 ∷ 6 ∷ 57 ∷ 0 ∷ 0 ∷ 99 ∷ 99 ∷ 99 ∷ 99 ∷ []) Incomplete 59 6) ∷
-    (imapClient (replicate 64 99) (text "12.3 APPEND x {180}\r\nFrom: b@c\r\nSubject: s\r\nContent-Type: m; boundary=q\r\r\n\r\nx--q\r\n--q\r\nTo: d\r\nTo: d\r\nContent-Transfer-Encoding: quoted-printable\r\nFrom: b@c\r\nContent-Length: 3\r\n\r\n--\r\n--q--\r\n\r\n--\r\n--qx\r\n\r\na4 LOGOUT\r\n") gives final (7 ∷ 0 ∷ 19 ∷ 0 ∷ 1 ∷ 21 ∷ 11 ∷ 0 ∷ 1 ∷ 32 ∷ 12 ∷ 0 ∷ 1 ∷ 44 ∷ 30 ∷ 0 ∷ 1 ∷ 74 ∷ 2 ∷ 0 ∷ 1 ∷ 87 ∷ 7 ∷ 0 ∷ 1 ∷ 94 ∷ 7 ∷ 0 ∷ 1 ∷ 101 ∷ 45 ∷ 0 ∷ 1 ∷ 146 ∷ 11 ∷ 0 ∷ 1 ∷ 157 ∷ 19 ∷ 0 ∷ 1 ∷ 176 ∷ 2 ∷ 0 ∷ 2 ∷ 178 ∷ 0 ∷ 0 ∷ 5 ∷ 178 ∷ 2 ∷ 4 ∷ 6 ∷ 180 ∷ 0 ∷ 0 ∷ 7 ∷ 203 ∷ 9 ∷ 0 ∷ 99 ∷ 99 ∷ 99 ∷ 99 ∷ []) Incomplete 214 15) ∷
+-- what is left of a literal behind a close
+abbrev rests : List Case
+rests =
+    -- a rest of 1 behind an inner close, below the outermost boundary's length of 2: it is skipped
+    on ImapClient (text "a APPEND {76}\r\n" ++ (opens "qq" ++ (opens "r" ++ text "\r\n--r--\r\nA: b\r\n")))
+    ((7, 0, 13, 0) ∷ (1, 15, 27, 0) ∷ (1, 42, 2, 0) ∷ (1, 50, 26, 0) ∷ (1, 76, 2, 0) ∷ (1, 83, 2, 0) ∷ (2, 85, 0, 0) ∷ (6, 85, 0, 0)
+    ∷ (1, 91, 1, 0) ∷ (1, 92, 6, 0) ∷ []) 1 98 ∷
+    -- a rest of 2 is not: a line is skipped, and once the literal is passed another
+    on ImapClient (text "a APPEND {77}\r\n" ++ (opens "qq" ++ (opens "r" ++ text "\r\n--r--\r\nA: b\r\n")))
+    ((7, 0, 13, 0) ∷ (1, 15, 27, 0) ∷ (1, 42, 2, 0) ∷ (1, 50, 26, 0) ∷ (1, 76, 2, 0) ∷ (1, 83, 2, 0) ∷ (2, 85, 0, 0) ∷ (6, 85, 0, 0) ∷ []) 1 98 ∷
+    -- a dot line behind a close ends nothing in IMAP
+    on ImapClient (text "a APPEND {99}\r\n" ++ (opens "q" ++ text "\r\n--q--\r\n.\r\n--q\r\n\r\nb\r\n"))
+    ((7, 0, 13, 0) ∷ (1, 15, 26, 0) ∷ (1, 41, 2, 0) ∷ (1, 48, 2, 0) ∷ (2, 50, 0, 0) ∷ (6, 50, 0, 0) ∷ (7, 67, 1, 0) ∷ []) 1 70 ∷
     []
 
 abbrev further : List Case
-further = delimiters ++ levels ++ clients ++ servers ++ appends
+further = envelopes ++ mails ++ multiparts ++ rests
 
 -- every case's answer is the wanted one
 abbrev Holds : List Case → Type 0
 Holds cs = map (λ c. c .answers) cs ≡ map (λ c. c .wanted) cs
 
 both : Holds small × Holds further
-unfolding answer settle resultOf placeOf react reacts need wants run go turn fetch parted reach past first firstPlace holds stands found contains delimits mayStand startsWith same endsWith raised clean dropEnd upperOf isLetter isUpper isWhite isBlank isPopWhite isDigit store pour finish lead runs last lastPlace through worth worthBehind transferEncoding encodingNamed behindSpaces closed quoted unquoted typed named bareParameter parameter contentType contentTypeExt firstEncoding byType byExt byBoundary scanned dashBdry startsWithHelo isMailFrom secondLine isData upToEnd closingAt mailFrom required rcptTo stlsAnswer octets octetsFollow numbered retrAnswer appendFollows isAppend dark trimmed braced fromBrace sizeOf appendSize holdsColon afterMail literalBody rest plainMail boundaryFree begun onHead onText onLiteral onPreamble onOpened held whole contentLength onContent outermost byRest skip onBetween lastLine popped onSkipping onResting onHello given bySecond onSecond onUser onPassword onSender onSeeking byRecipient onRecipient onReply onStatus onCommand onOffered onClosing
+unfolding answer settle resultOf placeOf react reacts need wants run go turn fetch parted reach past first firstPlace holds stands found contains
+    delimits mayStand startsWith same endsWith raised clean dropEnd upperOf isLetter isUpper isWhite isBlank isPopWhite isDigit store pour finish
+    lead runs last lastPlace through worth worthBehind transferEncoding encodingNamed behindSpaces closed quoted unquoted typed named bareParameter
+    parameter contentType contentTypeExt firstEncoding byType byExt byBoundary scanned dashBdry startsWithHelo isMailFrom secondLine isData upToEnd
+    closingAt mailFrom required rcptTo stlsAnswer octets octetsFollow numbered retrAnswer appendFollows isAppend dark trimmed braced fromBrace sizeOf
+    appendSize holdsColon afterMail literalBody rest plainMail boundaryFree begun onHead onText onLiteral onPreamble onOpened held whole contentLength
+    onContent outermost byRest skip onBetween lastLine popped onSkipping onResting onHello given bySecond onSecond onUser onPassword onSender onSeeking
+    byRecipient onRecipient onReply onStatus onCommand onOffered onClosing
 both = (refl, refl)
 
 pub small-set : Holds small
