@@ -19,8 +19,8 @@ use Rattle.fields.specs.Pop3.{stlsAnswer, octets, octetsFollow, numbered, retrA
 use Rattle.fields.specs.Imap.{appendFollows, isAppend, dark, trimmed, braced, fromBrace, sizeOf, appendSize, holdsColon}
 use Rattle.rules.specs.Machine.{turn, go, run}
 use Rattle.rules.specs.Phases.{wants, need}
-use Rattle.rules.specs.Mail.{afterMail, literalBody, rest, plainMail, boundaryFree, begun, onHead, onText, held, whole, onLiteral, onPreamble, onOpened, contentLength, onContent}
-use Rattle.rules.specs.Mail.{outermost, byRest, skip, onBetween, lastLine, popped, onSkipping, onResting}
+use Rattle.rules.specs.Mail.{afterMail, literalBody, rest, plainMail, boundaryFree, begun, onHead, onText, held, whole, onLiteral}
+use Rattle.rules.specs.Mail.{onPreamble, onOpened, contentLength, onContent, outermost, byRest, skip, onBetween, lastLine, popped, onSkipping, onResting}
 use Rattle.rules.specs.Smtp.{onHello, given, bySecond, onSecond, onUser, onPassword, onSender, onSeeking, byRecipient, onRecipient, onReply}
 use Rattle.rules.specs.Pop3.{onStatus}
 use Rattle.rules.specs.Imap.{onCommand, onOffered, onClosing}
@@ -146,9 +146,13 @@ envelopes =
 abbrev mails : List Case
 mails =
     -- a dot line in a header, the first valid encoding, bare LFs, the mail's end, the session's
-    on Pop3Server (text "+OK 2 octets\r\nA: b\r\n.\r\nContent-Transfer-Encoding: x\r\nContent-Transfer-Encoding: BASE64\r\nContent-Transfer-Encoding: 7bit\r\n\r\nhi\n.\n.\r\n+OK\r\n+OK STLS\r\n")
+    on Pop3Server (text "+OK 2 octets\r\nA: b\r\n.\r\nContent-Transfer-Encoding: x\r\nContent-Transfer-Encoding: BASE64\r\n"
+    ++ text "Content-Transfer-Encoding: 7bit\r\n\r\nhi\n.\n.\r\n+OK\r\n+OK STLS\r\n")
     ((8, 0, 12, 0) ∷ (1, 14, 6, 0) ∷ (1, 20, 3, 0) ∷ (1, 23, 30, 0) ∷ (1, 53, 35, 0) ∷ (1, 88, 33, 0) ∷ (1, 121, 2, 0) ∷ (2, 123, 0, 0)
     ∷ (3, 123, 3, 5) ∷ (3, 126, 2, 5) ∷ (6, 128, 0, 0) ∷ (8, 131, 3, 0) ∷ (8, 136, 8, 0) ∷ []) 0 146 ∷
+    -- a literal and its encoding
+    on ImapClient (text "a APPEND {35}\r\nContent-Transfer-Encoding:7bit\r\n\r\nx\r\n")
+    ((7, 0, 13, 0) ∷ (1, 15, 32, 0) ∷ (1, 47, 2, 0) ∷ (2, 49, 0, 0) ∷ (4, 49, 1, 1) ∷ (6, 50, 0, 0) ∷ []) 1 52 ∷
     -- a line that is only peeked at and has no colon is a command
     on ImapClient (text "a APPEND {99}\r\nb\r\n:\n") ((7, 0, 13, 0) ∷ (7, 15, 1, 0) ∷ (7, 18, 1, 0) ∷ []) 1 20 ∷
     []
@@ -162,13 +166,16 @@ multiparts =
     -- `--qq` is a delimiter of q
     on Pop3Server (text "+OK 1 octets\r\nContent-Type: boundary=q\r\n\r\n--qq\r\n") ((8, 0, 12, 0) ∷ (1, 14, 26, 0) ∷ (1, 40, 2, 0) ∷ []) 6 45 ∷
     -- behind an inner close: lines up to the outermost boundary, then a header of the level outside; behind the outermost close a dot line
-    on SmtpClient (text "EHLO\nMAIL FROM:\nDATA\n" ++ (opens "q" ++ (opens "r" ++ text "\r\n--r--\r\n--r\r\n--q\r\n\r\nx\r\n--q--\r\n.\r\n")))
-    ((1, 21, 26, 0) ∷ (1, 47, 2, 0) ∷ (1, 54, 26, 0) ∷ (1, 80, 2, 0) ∷ (1, 87, 2, 0) ∷ (2, 89, 0, 0) ∷ (6, 89, 0, 0) ∷ (1, 106, 2, 0)
-    ∷ (2, 108, 0, 0) ∷ (5, 108, 1, 0) ∷ (6, 109, 0, 0) ∷ []) 0 121 ∷
-    -- a folded boundary, a preamble, a dot line as content, a part without content, lines behind the close, a dot line, the next status
-    on Pop3Server (text "+OK 1 octets\r\nContent-Type: a\r\n\tboundary=\"q\"\r\n\r\np\r\n--q\r\n\r\n.\r\n--q\r\nContent-Transfer-Encoding: 8bit\r\n\r\n--q--x\r\ny\r\n.\r\n+OK\r\n")
-    ((8, 0, 12, 0) ∷ (1, 14, 17, 0) ∷ (1, 31, 15, 0) ∷ (1, 46, 2, 0) ∷ (1, 56, 2, 0) ∷ (2, 58, 0, 0) ∷ (5, 58, 1, 0) ∷ (6, 59, 0, 0)
-    ∷ (1, 66, 33, 0) ∷ (1, 99, 2, 0) ∷ (2, 101, 0, 0) ∷ (6, 101, 0, 0) ∷ (8, 115, 3, 0) ∷ []) 1 120 ∷
+    on SmtpClient (text "EHLO\nMAIL FROM:\nDATA\n" ++ (opens "qq" ++ (opens "r" ++ text "\r\n--r--\r\n--r\r\n--qq\r\n\r\nx\r\n--qq--\r\n.\r\n")))
+    ((1, 21, 27, 0) ∷ (1, 48, 2, 0) ∷ (1, 56, 26, 0) ∷ (1, 82, 2, 0) ∷ (1, 89, 2, 0) ∷ (2, 91, 0, 0) ∷ (6, 91, 0, 0) ∷ (1, 109, 2, 0)
+    ∷ (2, 111, 0, 0) ∷ (5, 111, 1, 0) ∷ (6, 112, 0, 0) ∷ []) 0 125 ∷
+    -- a folded boundary, a preamble, a dot line as content, an encoding, a part without content; a dash line and a dot line behind a close
+    on Pop3Server (text "+OK 1 octets\r\nContent-Type: a\r\n\tboundary=\"qq\"\r\n\r\np\r\n--qq\r\n\r\n.\r\n"
+    ++ (text "--qq\r\nContent-Transfer-Encoding: 8bit\r\n\r\nx\r\n--qq\r\n\r\n--qq--x\r\n--qq\r\n"
+    ++ (text "+OK 1 octets\r\n" ++ (opens "qq" ++ text "\r\n--qq--\r\ny\r\n.\r\n+OK\r\n"))))
+    ((8, 0, 12, 0) ∷ (1, 14, 17, 0) ∷ (1, 31, 16, 0) ∷ (1, 47, 2, 0) ∷ (1, 58, 2, 0) ∷ (2, 60, 0, 0) ∷ (5, 60, 1, 0) ∷ (6, 61, 0, 0)
+    ∷ (1, 69, 33, 0) ∷ (1, 102, 2, 0) ∷ (2, 104, 0, 0) ∷ (5, 104, 1, 2) ∷ (6, 105, 0, 0) ∷ (1, 113, 2, 0) ∷ (2, 115, 0, 0) ∷ (6, 115, 0, 0)
+    ∷ (8, 130, 12, 0) ∷ (1, 144, 27, 0) ∷ (1, 171, 2, 0) ∷ (1, 179, 2, 0) ∷ (2, 181, 0, 0) ∷ (6, 181, 0, 0) ∷ (8, 195, 3, 0) ∷ []) 1 200 ∷
     -- eight levels
     on Pop3Server (eight (text "\r\nx\r\n--8--\r\n"))
     ((8, 0, 12, 0) ∷ (1, 14, 26, 0) ∷ (1, 40, 2, 0) ∷ (1, 47, 26, 0) ∷ (1, 73, 2, 0) ∷ (1, 80, 26, 0) ∷ (1, 106, 2, 0) ∷ (1, 113, 26, 0)
