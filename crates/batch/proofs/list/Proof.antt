@@ -8,6 +8,39 @@ use Rattle.batch.proofs.Laws.{large-listed, touched-listed, case-listed
 use Rattle.batch.proofs.list.Statement.{statement}
 use Rattle.batch.proofs.list.Tie as tie
 
+-- a way out, behind struct_known, if1, last, out
+returns : tie.Need-returns
+returns c =
+    let last-ensures = c .before .before .last .ensures in
+    let if1-taken = c .before .before .before .before .before .if1 .taken in
+    large-listed _ if1-taken last-ensures
+
+-- a way out, behind struct_known, if1, struct_known2, untouched, if2, last2, out2
+returns-2 : tie.Need-returns-2
+returns-2 c =
+    let last2-ensures = c .before .before .last2 .ensures in
+    let after-if2 = c .before .before .before .before .before in
+    let if2-taken = after-if2 .if2 .taken in
+    let after-untouched = after-if2 .before in
+    let untouched-ensures = after-untouched .untouched .ensures in
+    let after-if1 = after-untouched .before .before .before in
+    let if1-left = after-if1 .if1 .left in
+    let start = after-if1 .before .before .before .before in
+    touched-listed _ if1-left (ap (only pattern) (sym (rest-is (start .args .table .now) _)) ∙ sym untouched-ensures ∙ not-true _ if2-taken) last2-ensures
+
+-- a way out, behind struct_known, if1, struct_known2, untouched, if2, append, out3
+returns-3 : tie.Need-returns-3
+returns-3 c =
+    let append-ensures = c .before .before .append .ensures in
+    let after-if2 = c .before .before .before .before in
+    let if2-left = after-if2 .if2 .left in
+    let after-untouched = after-if2 .before in
+    let untouched-ensures = after-untouched .untouched .ensures in
+    let after-if1 = after-untouched .before .before .before in
+    let if1-left = after-if1 .if1 .left in
+    let start = after-if1 .before .before .before .before in
+    case-listed _ if1-left (ap (only pattern) (sym (rest-is (start .args .table .now) _)) ∙ sym untouched-ensures ∙ not-false _ if2-left) (start .pre .1) append-ensures
+
 pub list-spec : {M : Type 1} → statement M
 list-spec =
     tie.close
@@ -16,7 +49,7 @@ list-spec =
     (λ c. search needs)
     (λ c _. search needs)
     (λ c. search needs)
-    (λ c. large-listed _ (c .before .before .before .before .before .if1 .taken) (c .before .before .last .ensures))
+    returns
     (λ c. search needs)
     (λ c. search needs)
     (λ c. search needs)
@@ -26,7 +59,7 @@ list-spec =
     (λ c. search needs)
     (λ c _. search needs)
     (λ c. search needs)
-    (λ c. touched-listed _ (c .before .before .before .before .before .before .before .before .before .if1 .left) (ap (only pattern) (sym (rest-is (c .before .before .before .before .before .before .before .before .before .before .before .before .before .args .table .now) _)) ∙ sym (c .before .before .before .before .before .before .untouched .ensures) ∙ not-true _ (c .before .before .before .before .before .if2 .taken)) (c .before .before .last2 .ensures))
+    returns-2
     (λ c _. search needs)
     (λ c. search needs)
-    (λ c. case-listed _ (c .before .before .before .before .before .before .before .before .if1 .left) (ap (only pattern) (sym (rest-is (c .before .before .before .before .before .before .before .before .before .before .before .before .args .table .now) _)) ∙ sym (c .before .before .before .before .before .untouched .ensures) ∙ not-false _ (c .before .before .before .before .if2 .left)) (c .before .before .before .before .before .before .before .before .before .before .before .before .pre .1) (c .before .before .append .ensures)))
+    returns-3)

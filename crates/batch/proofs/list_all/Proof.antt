@@ -13,6 +13,36 @@ Inv-loop bytes₀ table₀ out₀ turns₀ bytes table out turns = (length bytes
 abbrev μ-loop : tie.MeasureT-loop
 μ-loop bytes₀ table₀ out₀ turns₀ bytes table out turns = turns
 
+-- the index lies inside, in the loop behind next, bytes, out Case(n)
+slice-reshare-prefix-write-all : tie.Need-slice-reshare-prefix-write-all Inv-loop μ-loop
+slice-reshare-prefix-write-all c =
+    let next-ensures = c .before .before .before .before .before .before .before .before .before .next .ensures in
+    sized next-ensures (c .before .n .given .1)
+
+-- the index lies inside, in the loop behind next, bytes, out Case(n)
+slice-aggregate-write-all : tie.Need-slice-aggregate-write-all Inv-loop μ-loop
+slice-aggregate-write-all c =
+    let n-is = c .before .before .n .given .1 in
+    let after-next = c .before .before .before .before .before .before .before .before .before .before in
+    let next-last = after-next .next .last in
+    let next-ensures = after-next .next .ensures in
+    sym (length-take-le _ (next-last .1 .1 .0) (sized next-ensures n-is))
+
+-- the index lies inside, in the loop behind next, bytes, out Last(n)
+slice-reshare-prefix-write-all-2 : tie.Need-slice-reshare-prefix-write-all-2 Inv-loop μ-loop
+slice-reshare-prefix-write-all-2 c =
+    let next-ensures = c .before .before .before .before .before .before .before .before .before .next .ensures in
+    sized next-ensures (c .before .n2 .given .1)
+
+-- the index lies inside, in the loop behind next, bytes, out Last(n)
+slice-aggregate-write-all-2 : tie.Need-slice-aggregate-write-all-2 Inv-loop μ-loop
+slice-aggregate-write-all-2 c =
+    let n2-is = c .before .before .n2 .given .1 in
+    let after-next = c .before .before .before .before .before .before .before .before .before .before in
+    let next-last = after-next .next .last in
+    let next-ensures = after-next .next .ensures in
+    sym (length-take-le _ (next-last .1 .1 .0) (sized next-ensures n2-is))
+
 pub list-all-spec : {M : Type 1} → statement M
 list-all-spec =
     tie.close
@@ -22,16 +52,16 @@ list-all-spec =
     (λ c. search needs)
     (λ c _. search needs)
     (λ c. search needs)
-    (λ c. sized (c .before .before .before .before .before .before .before .before .before .next .ensures) (c .before .n .given .1))
-    (λ c. sym (length-take-le _ (c .before .before .before .before .before .before .before .before .before .before .next .last .1 .1 .0) (sized (c .before .before .before .before .before .before .before .before .before .before .next .ensures) (c .before .before .n .given .1))))
+    slice-reshare-prefix-write-all
+    slice-aggregate-write-all
     (λ c _. search needs)
     (λ c. search needs)
     (λ c. search needs)
     (λ c. search needs)
     (λ c. search needs)
     (λ c. search needs)
-    (λ c. sized (c .before .before .before .before .before .before .before .before .before .next .ensures) (c .before .n2 .given .1))
-    (λ c. sym (length-take-le _ (c .before .before .before .before .before .before .before .before .before .before .next .last .1 .1 .0) (sized (c .before .before .before .before .before .before .before .before .before .before .next .ensures) (c .before .before .n2 .given .1))))
+    slice-reshare-prefix-write-all-2
+    slice-aggregate-write-all-2
     (λ c _. search needs)
     (λ c. search needs)
     (λ c. search needs)

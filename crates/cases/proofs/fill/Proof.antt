@@ -13,6 +13,34 @@ Inv-loop t₀ i₀ t i = Filled t₀ i t
 abbrev μ-loop : tie.MeasureT-loop
 μ-loop t₀ i₀ t i = length t₀ - i
 
+-- the product does not wrap, in the loop
+mul-t : tie.Need-mul-t Inv-loop μ-loop
+mul-t c =
+    let start = c .before .before in
+    omega (arith, filled-length (c .before .loop .inv), start .good .0 .1, c .loop-test .taken)
+
+-- the sum does not wrap, in the loop
+add-i : tie.Need-add-i Inv-loop μ-loop
+add-i c =
+    let start = c .before .before in
+    omega (arith, filled-length (c .before .loop .inv), start .good .0 .1, c .loop-test .taken)
+
+-- the measure falls
+loop-less : tie.Need-loop-less Inv-loop μ-loop
+loop-less c = omega (arith, filled-length (c .before .loop .inv))
+
+-- the invariant holds after a turn
+loop-again : tie.Need-loop-again Inv-loop μ-loop
+loop-again c = filled-on (c .before .loop .inv) (omega (arith, filled-length (c .before .loop .inv)))
+
+-- the lent slice has kept its length, in the loop
+same-length : tie.Need-same-length Inv-loop μ-loop
+same-length c = filled-length (c .before .loop .inv)
+
+-- a way out, in the loop
+returns : tie.Need-returns Inv-loop μ-loop
+returns c = filled-all (c .before .loop .inv) (omega (arith, filled-length (c .before .loop .inv)))
+
 pub fill-spec : {M : Type 1} → statement M
 fill-spec =
     tie.close
@@ -20,10 +48,10 @@ fill-spec =
     Inv-loop
     μ-loop
     (λ c. filled-none-yet _)
-    (λ c. omega (arith, filled-length (c .before .loop .inv), c .before .before .good .0 .1, c .loop-test .taken))
+    mul-t
     (λ c. search needs)
-    (λ c. omega (arith, filled-length (c .before .loop .inv), c .before .before .good .0 .1, c .loop-test .taken))
-    (λ c. omega (arith, filled-length (c .before .loop .inv)))
-    (λ c. filled-on (c .before .loop .inv) (omega (arith, filled-length (c .before .loop .inv))))
-    (λ c. filled-length (c .before .loop .inv))
-    (λ c. filled-all (c .before .loop .inv) (omega (arith, filled-length (c .before .loop .inv)))))
+    add-i
+    loop-less
+    loop-again
+    same-length
+    returns)

@@ -14,20 +14,48 @@ Inv-loop t b i₀ i = Compared t b i
 abbrev μ-loop : tie.MeasureT-loop
 μ-loop t b i₀ i = length t - i
 
+-- a way out, behind if1
+returns : tie.Need-returns Inv-loop μ-loop
+returns c = compared-long _ _ (c .if1 .taken)
+
+-- the invariant holds at first, behind if1
+loop-holds : tie.Need-loop-holds Inv-loop μ-loop
+loop-holds c = compared-none-yet _ _ (c .if1 .left)
+
+-- a way out, in the loop behind if1, four, if2
+returns-2 : tie.Need-returns-2 Inv-loop μ-loop
+returns-2 c =
+    let after-loop-test = c .before .before .before in
+    let loop-test-taken = after-loop-test .loop-test .taken in
+    let loop-inv = after-loop-test .before .loop .inv in
+    compared-differs loop-inv loop-test-taken (λ e. c .if2 .taken (e ∙ sym (c .before .four .ensures)))
+
+-- the invariant holds after a turn, behind if1, four, if2
+loop-again : tie.Need-loop-again Inv-loop μ-loop
+loop-again c =
+    let after-loop-test = c .before .before .before in
+    let loop-test-taken = after-loop-test .loop-test .taken in
+    let loop-inv = after-loop-test .before .loop .inv in
+    compared-on loop-inv loop-test-taken (c .if2 .left ∙ c .before .four .ensures)
+
+-- a way out, in the loop behind if1
+returns-3 : tie.Need-returns-3 Inv-loop μ-loop
+returns-3 c = compared-all (c .before .loop .inv) (c .loop-test .left)
+
 pub same-numbers-spec : {M : Type 1} → statement M
 same-numbers-spec =
     tie.close
     (tie.spec
     Inv-loop
     μ-loop
-    (λ c. compared-long _ _ (c .if1 .taken))
-    (λ c. compared-none-yet _ _ (c .if1 .left))
+    returns
+    loop-holds
     (λ c. search needs)
     (λ c. search needs)
     (λ c. search needs)
     (λ c _. search needs)
-    (λ c. compared-differs (c .before .before .before .before .loop .inv) (c .before .before .before .loop-test .taken) (λ e. c .if2 .taken (e ∙ sym (c .before .four .ensures))))
+    returns-2
     (λ c. search needs)
     (λ c. omega arith)
-    (λ c. compared-on (c .before .before .before .before .loop .inv) (c .before .before .before .loop-test .taken) (c .if2 .left ∙ c .before .four .ensures))
-    (λ c. compared-all (c .before .loop .inv) (c .loop-test .left)))
+    loop-again
+    returns-3)

@@ -14,6 +14,21 @@ Inv-loop t i₀ i = Asked pattern t i
 abbrev μ-loop : tie.MeasureT-loop
 μ-loop t i₀ i = length t - i
 
+-- a way out, in the loop behind if1
+returns : tie.Need-returns Inv-loop μ-loop
+returns c =
+    let loop-test-taken = c .before .before .loop-test .taken in
+    let loop-inv = c .before .before .before .loop .inv in
+    asked-differs loop-inv loop-test-taken (c .if1 .taken)
+
+-- the invariant holds after a turn, behind if1
+loop-again : tie.Need-loop-again Inv-loop μ-loop
+loop-again c = asked-on (c .before .before .before .loop .inv) (c .before .before .loop-test .taken) (c .if1 .left)
+
+-- a way out, in the loop
+returns-2 : tie.Need-returns-2 Inv-loop μ-loop
+returns-2 c = asked-all (c .before .loop .inv) (c .loop-test .left)
+
 pub untouched-spec : {M : Type 1} → statement M
 untouched-spec =
     tie.close
@@ -23,8 +38,8 @@ untouched-spec =
     (λ c. asked-none-yet _ _)
     (λ c. search needs)
     (λ c. search needs)
-    (λ c. asked-differs (c .before .before .before .loop .inv) (c .before .before .loop-test .taken) (c .if1 .taken))
+    returns
     (λ c. search needs)
     (λ c. omega arith)
-    (λ c. asked-on (c .before .before .before .loop .inv) (c .before .before .loop-test .taken) (c .if1 .left))
-    (λ c. asked-all (c .before .loop .inv) (c .loop-test .left)))
+    loop-again
+    returns-2)

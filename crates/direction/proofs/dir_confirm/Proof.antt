@@ -6,13 +6,16 @@ use Rattle.direction.specs.Direction.{guess}
 use Rattle.direction.proofs.dir_confirm.Statement.{statement}
 use Rattle.direction.proofs.dir_confirm.Tie as tie
 
+-- a way out
 returns : tie.Need-returns
 unfolding guess
 returns c = rw (ne-eqb _ 1 (c .match .rest .0 .0 .1), ne-eqb _ 2 (c .match .rest .0 .1), ne-eqb _ 3 (c .match .rest .1))
 
+-- a way out, behind confirm
 returns-2 : tie.Need-returns-2
 unfolding guess
-returns-2 c = ⊎-elim (λ w. rw (w .0 .keys1) (rw (w .1) at (c .confirm .ensures))) (⊎-elim (λ w. rw (w .0 .keys2) (rw (w .1) at (c .confirm .ensures))) (λ w. rw (w .0 .keys3) (rw (w .1) at (c .confirm .ensures)))) (c .before .match .came)
+returns-2 c = ⊎-elim (λ w. rw (w .0 .keys1) (rw (w .1) at (c .confirm .ensures)))
+    (⊎-elim (λ w. rw (w .0 .keys2) (rw (w .1) at (c .confirm .ensures))) (λ w. rw (w .0 .keys3) (rw (w .1) at (c .confirm .ensures)))) (c .before .match .came)
 
 pub dir-confirm-spec : {M : Type 1} → statement M
 dir-confirm-spec =

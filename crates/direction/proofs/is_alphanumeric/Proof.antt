@@ -4,11 +4,19 @@ use borrow.Author.Needs.{needs}
 use Rattle.direction.proofs.is_alphanumeric.Statement.{statement}
 use Rattle.direction.proofs.is_alphanumeric.Tie as tie
 
+-- a way out, behind is_letter, if1
+returns : tie.Need-returns
+returns c = rw (sym (c .before .is-letter .ensures) ∙ c .if1 .taken) (c .if1 .taken)
+
+-- a way out, behind is_letter, if1, is_digit
+returns-2 : tie.Need-returns-2
+returns-2 c = rw (sym (c .before .before .is-letter .ensures) ∙ c .before .if1 .left) (c .is-digit .ensures)
+
 pub is-alphanumeric-spec : {M : Type 1} → statement M
 is-alphanumeric-spec =
     tie.close
     (tie.spec
     (λ c _. search needs)
     (λ c _. search needs)
-    (λ c. rw (sym (c .before .is-letter .ensures) ∙ c .if1 .taken) (c .if1 .taken))
-    (λ c. rw (sym (c .before .before .is-letter .ensures) ∙ c .before .if1 .left) (c .is-digit .ensures)))
+    returns
+    returns-2)

@@ -4,22 +4,27 @@ use Rattle.letters.specs.Letters.{entryOf}
 use Rattle.letters.proofs.entry_of.Statement.{statement}
 use Rattle.letters.proofs.entry_of.Tie as tie
 
+-- a way out
 returns : tie.Need-returns
 unfolding entryOf
 returns c = rw (c .match .keys1)
 
+-- a way out
 returns-2 : tie.Need-returns-2
 unfolding entryOf
 returns-2 c = rw (c .match .keys2)
 
+-- a way out
 returns-3 : tie.Need-returns-3
 unfolding entryOf
 returns-3 c = rw (c .match .keys3)
 
+-- a way out
 returns-4 : tie.Need-returns-4
 unfolding entryOf
 returns-4 c = rw (c .match .keys4)
 
+-- a way out
 returns-5 : tie.Need-returns-5
 unfolding entryOf
 returns-5 c = rw (ne-eqb _ 83 (c .match .rest .0 .0 .0 .1), ne-eqb _ 115 (c .match .rest .0 .0 .1), ne-eqb _ 80 (c .match .rest .0 .1), ne-eqb _ 73 (c .match .rest .1))

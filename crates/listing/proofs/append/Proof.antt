@@ -7,15 +7,29 @@ use Rattle.listing.proofs.Pasted.{pasted-on}
 use Rattle.listing.proofs.append.Statement.{statement}
 use Rattle.listing.proofs.append.Tie as tie
 
+-- what `last_line` requires, behind event_lines, out
+last-line-requires : tie.Need-last-line-requires
+last-line-requires c _ =
+    let after-event-lines = c .before .before .before in
+    let event-lines-ensures = after-event-lines .event-lines .ensures in
+    let start = after-event-lines .before .before .before .before in
+    lines-room _ _ event-lines-ensures (start .pre .0)
+
+-- a way out, behind event_lines, out, last_line, out2
 returns : tie.Need-returns
 unfolding listing
-returns c = pasted-on (c .before .before .before .before .before .before .event-lines .ensures) (omega (arith, c .before .before .before .before .before .before .before .before .before .before .pre .0)) (c .before .before .last-line .ensures)
+returns c =
+    let last-line-ensures = c .before .before .last-line .ensures in
+    let after-event-lines = c .before .before .before .before .before .before in
+    let event-lines-ensures = after-event-lines .event-lines .ensures in
+    let start = after-event-lines .before .before .before .before in
+    pasted-on event-lines-ensures (omega (arith, start .pre .0)) last-line-ensures
 
 pub append-spec : {M : Type 1} → statement M
 append-spec =
     tie.close
     (tie.spec
     (λ c _. search needs)
-    (λ c _. lines-room _ _ (c .before .before .before .event-lines .ensures) (c .before .before .before .before .before .before .before .pre .0))
+    last-line-requires
     (λ c. search needs)
     returns)

@@ -5,5 +5,9 @@ use Rattle.direction.specs.Direction.{guessNumber}
 use Rattle.mailindex.proofs.mailindex_direction.Statement.{statement}
 use Rattle.mailindex.proofs.mailindex_direction.Tie as tie
 
+-- a way out, behind dir_confirm, guess_number
+returns : tie.Need-returns
+returns c = c .guess-number .ensures ∙ ap guessNumber (c .before .dir-confirm .ensures)
+
 pub mailindex-direction-spec : {M : Type 1} → statement M
-mailindex-direction-spec = tie.close (tie.spec (λ c _. search needs) (λ c _. search needs) (λ c. c .guess-number .ensures ∙ ap guessNumber (c .before .dir-confirm .ensures)))
+mailindex-direction-spec = tie.close (tie.spec (λ c _. search needs) (λ c _. search needs) returns)

@@ -4,5 +4,9 @@ use Rattle.mailindex.proofs.Laws.{answers}
 use Rattle.mailindex.proofs.mailindex_smtp_client.Statement.{statement}
 use Rattle.mailindex.proofs.mailindex_smtp_client.Tie as tie
 
+-- a way out, behind smtp_client, numbers
+returns : tie.Need-returns
+returns c = answers (c .before .before .before .smtp-client .ensures) (c .numbers .ensures)
+
 pub mailindex-smtp-client-spec : {M : Type 1} → statement M
-mailindex-smtp-client-spec = tie.close (tie.spec (λ c _. search needs) (λ c _. search needs) (λ c. search needs) (λ c. answers (c .before .before .before .smtp-client .ensures) (c .numbers .ensures)))
+mailindex-smtp-client-spec = tie.close (tie.spec (λ c _. search needs) (λ c _. search needs) (λ c. search needs) returns)

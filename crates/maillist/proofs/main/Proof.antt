@@ -5,6 +5,19 @@ use borrow.Author.Needs.{needs}
 use Rattle.maillist.proofs.main.Statement.{statement}
 use Rattle.maillist.proofs.main.Tie as tie
 
+-- the index lies inside, behind bytes, fill, bytes2 Bytes(n)
+array-share-prefix-bytes : tie.Need-array-share-prefix-bytes
+array-share-prefix-bytes c = rw (c .before .n .given .1) at (c .before .before .before .before .fill .ensures)
+
+-- the index lies inside, behind bytes, fill, bytes2 Bytes(n), bytes3
+slice-aggregate-print : tie.Need-slice-aggregate-print
+slice-aggregate-print c =
+    let n-is = c .before .before .n .given .1 in
+    let after-fill = c .before .before .before .before .before in
+    let fill-last = after-fill .fill .last in
+    let fill-ensures = after-fill .fill .ensures in
+    sym (length-take-le _ (fill-last .1 .0) (rw n-is at fill-ensures))
+
 pub main-spec : {M : Type 1} → statement M
 main-spec =
     tie.close
@@ -15,8 +28,8 @@ main-spec =
     (λ c. search needs)
     (λ c _. search needs)
     (λ c. search needs)
-    (λ c. rw (c .before .n .given .1) at (c .before .before .before .before .fill .ensures))
-    (λ c. sym (length-take-le _ (c .before .before .before .before .before .fill .last .1 .0) (rw (c .before .before .n .given .1) at (c .before .before .before .before .before .fill .ensures))))
+    array-share-prefix-bytes
+    slice-aggregate-print
     (λ c _. search needs)
     (λ c. search needs)
     (λ c. search needs))

@@ -5,6 +5,13 @@ use borrow.Author.Needs.{needs}
 use Rattle.maillist.proofs.print.Statement.{statement}
 use Rattle.maillist.proofs.print.Tie as tie
 
+-- the index lies inside, behind out, answer, out2, out3
+slice-aggregate-write-all : tie.Need-slice-aggregate-write-all
+slice-aggregate-write-all c =
+    let answer-last = c .before .before .answer .last in
+    let answer-ensures = c .before .before .answer .ensures in
+    sym (length-take-le _ (answer-last .1 .0) (answer-ensures .within))
+
 pub print-spec : {M : Type 1} → statement M
 print-spec =
     tie.close
@@ -12,7 +19,7 @@ print-spec =
     (λ c. search needs)
     (λ c _. search needs)
     (λ c. search needs)
-    (λ c. sym (length-take-le _ (c .before .before .answer .last .1 .0) (c .before .before .answer .ensures .within)))
+    slice-aggregate-write-all
     (λ c _. search needs)
     (λ c. search needs)
     (λ c _. search needs)

@@ -15,14 +15,22 @@ Inv-loop s p n seen₀ i₀ seen i = (i ≤ n) × (seen ≡ found (first (dashed
 abbrev μ-loop : tie.MeasureT-loop
 μ-loop s p n seen₀ i₀ seen i = n - i
 
+-- the invariant holds at first
 loop-holds : tie.Need-loop-holds Inv-loop μ-loop
 unfolding found first
 loop-holds c = (omega arith, refl)
 
+-- the invariant holds after a turn
 loop-again : tie.Need-loop-again Inv-loop μ-loop
 unfolding dashed holds
-loop-again c = (omega arith, rw (c .before .before .before .loop .inv .1) (sym (found-more (dashed (c .before .before .before .before .args .s .now)) (c .before .before .before .before .args .p) (c .before .before .before .loop .i))))
+loop-again c =
+    let after-loop = c .before .before .before in
+    let loop-inv = after-loop .loop .inv in
+    let loop-i = after-loop .loop .i in
+    let start = after-loop .before in
+    (omega arith, rw (loop-inv .1) (sym (found-more (dashed (start .args .s .now)) (start .args .p) loop-i)))
 
+-- a way out, in the loop
 returns : tie.Need-returns Inv-loop μ-loop
 returns c = let e : c .before .loop .i ≡ c .before .before .args .n = omega (arith, c .before .loop .inv .0, c .loop-test .left) in rw e at (c .before .loop .inv .1)
 

@@ -15,9 +15,23 @@ Inv-loop s p b k same₀ i₀ same i = (i ≤ 16) × (same ≡ startsWith (take 
 abbrev μ-loop : tie.MeasureT-loop
 μ-loop s p b k same₀ i₀ same i = 16 - i
 
+-- the invariant holds at first
 loop-holds : tie.Need-loop-holds Inv-loop μ-loop
 unfolding startsWith
 loop-holds c = (omega arith, refl)
+
+-- the invariant holds after a turn
+loop-again : tie.Need-loop-again Inv-loop μ-loop
+loop-again c =
+    let loop-test-taken = c .before .before .loop-test .taken in
+    let after-loop = c .before .before .before in
+    let loop-inv = after-loop .loop .inv in
+    let pre = after-loop .before .pre in
+    (omega arith, rw (loop-inv .1) (sym (block-more _ _ _ _ _ (pre .0) (pre .1) loop-test-taken)))
+
+-- a way out, in the loop
+returns : tie.Need-returns Inv-loop μ-loop
+returns c = let e : c .before .loop .i ≡ 16 = omega (arith, c .before .loop .inv .0, c .loop-test .left) in rw e at (c .before .loop .inv .1)
 
 pub block-equals-spec : {M : Type 1} → statement M
 block-equals-spec =
@@ -32,5 +46,5 @@ block-equals-spec =
     (λ c. search needs)
     (λ c. search needs)
     (λ c. search needs)
-    (λ c. (omega arith, rw (c .before .before .before .loop .inv .1) (sym (block-more _ _ _ _ _ (c .before .before .before .before .pre .0) (c .before .before .before .before .pre .1) (c .before .before .loop-test .taken)))))
-    (λ c. let e : c .before .loop .i ≡ 16 = omega (arith, c .before .loop .inv .0, c .loop-test .left) in rw e at (c .before .loop .inv .1)))
+    loop-again
+    returns)

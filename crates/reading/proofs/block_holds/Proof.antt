@@ -14,14 +14,21 @@ Inv-loop s p b seen₀ i₀ seen i = (i ≤ 16) × (seen ≡ found (first (holds
 abbrev μ-loop : tie.MeasureT-loop
 μ-loop s p b seen₀ i₀ seen i = 16 - i
 
+-- the invariant holds at first
 loop-holds : tie.Need-loop-holds Inv-loop μ-loop
 unfolding found first
 loop-holds c = (omega arith, refl)
 
+-- the invariant holds after a turn
 loop-again : tie.Need-loop-again Inv-loop μ-loop
 unfolding holds
-loop-again c = (omega arith, rw (c .before .before .loop .inv .1) (sym (found-more (holds (c .before .before .before .args .b) (c .before .before .before .args .s .now)) (c .before .before .before .args .p) (c .before .before .loop .i))))
+loop-again c =
+    let loop-inv = c .before .before .loop .inv in
+    let loop-i = c .before .before .loop .i in
+    let start = c .before .before .before in
+    (omega arith, rw (loop-inv .1) (sym (found-more (holds (start .args .b) (start .args .s .now)) (start .args .p) loop-i)))
 
+-- a way out, in the loop
 returns : tie.Need-returns Inv-loop μ-loop
 returns c = let e : c .before .loop .i ≡ 16 = omega (arith, c .before .loop .inv .0, c .loop-test .left) in rw e at (c .before .loop .inv .1)
 

@@ -5,10 +5,20 @@ use Rattle.reading.proofs.Ends.{drop-end-within, clean-length}
 use Rattle.reading.proofs.clean_end.Statement.{statement}
 use Rattle.reading.proofs.clean_end.Tie as tie
 
+-- what `drop_end` requires, behind drop_end
+drop-end-requires-2 : tie.Need-drop-end-requires-2
+drop-end-requires-2 c _ = rw (c .drop-end .ensures, take-length (c .before .before .args .l .now)) (drop-end-within _ _)
+
+-- a way out, behind drop_end, drop_end2
+returns : tie.Need-returns
+returns c =
+    let start = c .before .before .before in
+    clean-length (start .args .l .now) (c .before .drop-end .result) _ (c .before .drop-end .ensures) (c .drop-end2 .ensures)
+
 pub clean-end-spec : {M : Type 1} → statement M
 clean-end-spec =
     tie.close
     (tie.spec
     (λ c _. search needs)
-    (λ c _. rw (c .drop-end .ensures, take-length (c .before .before .args .l .now)) (drop-end-within _ _))
-    (λ c. clean-length (c .before .before .before .args .l .now) (c .before .drop-end .result) _ (c .before .drop-end .ensures) (c .drop-end2 .ensures)))
+    drop-end-requires-2
+    returns)

@@ -15,14 +15,29 @@ Inv-loop l w p₀ p = Sought (stands (raised w) (raised l)) (raised l) p
 abbrev μ-loop : tie.MeasureT-loop
 μ-loop l w p₀ p = length l - p
 
+-- a way out, in the loop behind starts_with_any_case, if1
 returns : tie.Need-returns Inv-loop μ-loop
 unfolding stands contains found
-returns c = ap found (sought-here (c .before .before .before .before .loop .inv) (rw raised-length (c .before .before .before .loop-test .taken)) (raised-rest _ (c .before .before .before .before .before .before .before .args .l .now) _ ∙ sym (c .before .starts-with-any-case .ensures) ∙ c .if1 .taken))
+returns c =
+    let after-loop-test = c .before .before .before in
+    let loop-test-taken = after-loop-test .loop-test .taken in
+    let after-loop = after-loop-test .before in
+    let loop-inv = after-loop .loop .inv in
+    let start = after-loop .before .before .before in
+    ap found (sought-here loop-inv (rw raised-length loop-test-taken) (raised-rest _ (start .args .l .now) _ ∙ sym (c .before .starts-with-any-case .ensures) ∙ c .if1 .taken))
 
+-- the invariant holds after a turn, behind starts_with_any_case, if1
 loop-again : tie.Need-loop-again Inv-loop μ-loop
 unfolding stands
-loop-again c = sought-on (c .before .before .before .before .loop .inv) (rw raised-length (c .before .before .before .loop-test .taken)) (raised-rest _ (c .before .before .before .before .before .before .before .args .l .now) _ ∙ sym (c .before .starts-with-any-case .ensures) ∙ c .if1 .left)
+loop-again c =
+    let after-loop-test = c .before .before .before in
+    let loop-test-taken = after-loop-test .loop-test .taken in
+    let after-loop = after-loop-test .before in
+    let loop-inv = after-loop .loop .inv in
+    let start = after-loop .before .before .before in
+    sought-on loop-inv (rw raised-length loop-test-taken) (raised-rest _ (start .args .l .now) _ ∙ sym (c .before .starts-with-any-case .ensures) ∙ c .if1 .left)
 
+-- a way out, in the loop
 returns-2 : tie.Need-returns-2 Inv-loop μ-loop
 unfolding contains found
 returns-2 c = ap found (sought-in-vain (c .before .loop .inv) (rw raised-length (c .loop-test .left)))

@@ -4,12 +4,24 @@ use Rattle.reading.proofs.Ends.{drop-end-none, drop-end-here, drop-end-
 use Rattle.reading.proofs.drop_end.Statement.{statement}
 use Rattle.reading.proofs.drop_end.Tie as tie
 
+-- a way out, behind if1
+returns : tie.Need-returns
+returns c = drop-end-none _ _ _ (c .if1 .taken)
+
+-- a way out, behind if1, if2
+returns-2 : tie.Need-returns-2
+returns-2 c = drop-end-here _ _ _ (omega arith) (c .before .before .before .pre) (c .if2 .taken)
+
+-- a way out, behind if1, if2
+returns-3 : tie.Need-returns-3
+returns-3 c = drop-end-not _ _ _ (omega arith) (c .before .before .before .pre) (c .if2 .left)
+
 pub drop-end-spec : {M : Type 1} → statement M
 drop-end-spec =
     tie.close
     (tie.spec
-    (λ c. drop-end-none _ _ _ (c .if1 .taken))
+    returns
     (λ c. omega arith)
     (λ c. omega arith)
-    (λ c. drop-end-here _ _ _ (omega arith) (c .before .before .before .pre) (c .if2 .taken))
-    (λ c. drop-end-not _ _ _ (omega arith) (c .before .before .before .pre) (c .if2 .left)))
+    returns-2
+    returns-3)

@@ -7,9 +7,12 @@ use Rattle.reading.proofs.Words.{rest-is}
 use Rattle.reading.proofs.ends_with.Statement.{statement}
 use Rattle.reading.proofs.ends_with.Tie as tie
 
+-- a way out, behind if1, equals
 returns-2 : tie.Need-returns-2
 unfolding endsWith
-returns-2 c = c .equals .ensures ∙ ap (same _) (rest-is (c .before .before .before .before .before .args .l .now) _)
+returns-2 c =
+    let start = c .before .before .before .before .before in
+    c .equals .ensures ∙ ap (same _) (rest-is (start .args .l .now) _)
 
 pub ends-with-spec : {M : Type 1} → statement M
 ends-with-spec =

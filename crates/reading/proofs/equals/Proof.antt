@@ -5,10 +5,12 @@ use Rattle.reading.specs.Bytes.{same}
 use Rattle.reading.proofs.equals.Statement.{statement}
 use Rattle.reading.proofs.equals.Tie as tie
 
+-- a way out, behind if1
 returns : tie.Need-returns
 unfolding same
 returns c = rw (ne-eqb _ _ (c .if1 .taken))
 
+-- a way out, behind if1, starts_with
 returns-2 : tie.Need-returns-2
 unfolding same
 returns-2 c = rw (eq-eqb _ _ (c .before .if1 .left)) (c .starts-with .ensures)

@@ -15,13 +15,31 @@ Inv-loop l w p₀ p = Sought (stands w l) l p
 abbrev μ-loop : tie.MeasureT-loop
 μ-loop l w p₀ p = length l - p
 
+-- a way out, in the loop behind starts_with, if1
 returns : tie.Need-returns Inv-loop μ-loop
 unfolding stands
-returns c = sought-here (c .before .before .before .before .loop .inv) (c .before .before .before .loop-test .taken) (ap (startsWith _) (sym (rest-is (c .before .before .before .before .before .before .before .args .l .now) _)) ∙ sym (c .before .starts-with .ensures) ∙ c .if1 .taken)
+returns c =
+    let after-loop-test = c .before .before .before in
+    let loop-test-taken = after-loop-test .loop-test .taken in
+    let after-loop = after-loop-test .before in
+    let loop-inv = after-loop .loop .inv in
+    let start = after-loop .before .before .before in
+    sought-here loop-inv loop-test-taken (ap (startsWith _) (sym (rest-is (start .args .l .now) _)) ∙ sym (c .before .starts-with .ensures) ∙ c .if1 .taken)
 
+-- the invariant holds after a turn, behind starts_with, if1
 loop-again : tie.Need-loop-again Inv-loop μ-loop
 unfolding stands
-loop-again c = sought-on (c .before .before .before .before .loop .inv) (c .before .before .before .loop-test .taken) (ap (startsWith _) (sym (rest-is (c .before .before .before .before .before .before .before .args .l .now) _)) ∙ sym (c .before .starts-with .ensures) ∙ c .if1 .left)
+loop-again c =
+    let after-loop-test = c .before .before .before in
+    let loop-test-taken = after-loop-test .loop-test .taken in
+    let after-loop = after-loop-test .before in
+    let loop-inv = after-loop .loop .inv in
+    let start = after-loop .before .before .before in
+    sought-on loop-inv loop-test-taken (ap (startsWith _) (sym (rest-is (start .args .l .now) _)) ∙ sym (c .before .starts-with .ensures) ∙ c .if1 .left)
+
+-- a way out, in the loop
+returns-2 : tie.Need-returns-2 Inv-loop μ-loop
+returns-2 c = sought-in-vain (c .before .loop .inv) (c .loop-test .left)
 
 pub find-spec : {M : Type 1} → statement M
 find-spec =
@@ -38,4 +56,4 @@ find-spec =
     (λ c. search needs)
     (λ c. search needs)
     loop-again
-    (λ c. sought-in-vain (c .before .loop .inv) (c .loop-test .left)))
+    returns-2)

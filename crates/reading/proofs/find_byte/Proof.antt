@@ -15,13 +15,29 @@ Inv-loop s b p₀ p = Sought (holds b s) s p
 abbrev μ-loop : tie.MeasureT-loop
 μ-loop s b p₀ p = length s - p
 
+-- the invariant holds at first, behind skip_blocks
+loop-holds : tie.Need-loop-holds Inv-loop μ-loop
+loop-holds c = sought-passed _ (sought-none-yet _ _) (c .skip-blocks .ensures)
+
+-- a way out, in the loop behind skip_blocks, if1
 returns : tie.Need-returns Inv-loop μ-loop
 unfolding holds
-returns c = sought-here (c .before .before .before .loop .inv) (c .before .before .loop-test .taken) (eq-eqb _ _ (c .if1 .taken))
+returns c =
+    let loop-test-taken = c .before .before .loop-test .taken in
+    let loop-inv = c .before .before .before .loop .inv in
+    sought-here loop-inv loop-test-taken (eq-eqb _ _ (c .if1 .taken))
 
+-- the invariant holds after a turn, behind skip_blocks, if1
 loop-again : tie.Need-loop-again Inv-loop μ-loop
 unfolding holds
-loop-again c = sought-on (c .before .before .before .loop .inv) (c .before .before .loop-test .taken) (ne-eqb _ _ (c .if1 .left))
+loop-again c =
+    let loop-test-taken = c .before .before .loop-test .taken in
+    let loop-inv = c .before .before .before .loop .inv in
+    sought-on loop-inv loop-test-taken (ne-eqb _ _ (c .if1 .left))
+
+-- a way out, in the loop behind skip_blocks
+returns-2 : tie.Need-returns-2 Inv-loop μ-loop
+returns-2 c = sought-in-vain (c .before .loop .inv) (c .loop-test .left)
 
 pub find-byte-spec : {M : Type 1} → statement M
 find-byte-spec =
@@ -30,10 +46,10 @@ find-byte-spec =
     Inv-loop
     μ-loop
     (λ c _. search needs)
-    (λ c. sought-passed _ (sought-none-yet _ _) (c .skip-blocks .ensures))
+    loop-holds
     (λ c. search needs)
     returns
     (λ c. search needs)
     (λ c. search needs)
     loop-again
-    (λ c. sought-in-vain (c .before .loop .inv) (c .loop-test .left)))
+    returns-2)

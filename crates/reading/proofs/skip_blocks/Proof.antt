@@ -15,17 +15,48 @@ Inv-loop s b p₀ p = Passed (holds b s) s 0 p
 abbrev μ-loop : tie.MeasureT-loop
 μ-loop s b p₀ p = length s - p
 
+-- the invariant holds at first
+loop-holds : tie.Need-loop-holds Inv-loop μ-loop
+loop-holds c = passed-none-yet _ (omega arith)
+
+-- the difference is not below 0, in the loop
+sub-loop : tie.Need-sub-loop Inv-loop μ-loop
+sub-loop c = omega (arith, c .loop .inv .within)
+
+-- what `block_holds` requires, in the loop
+block-holds-requires : tie.Need-block-holds-requires Inv-loop μ-loop
+block-holds-requires c _ = omega (arith, c .before .loop .inv .within, c .loop-test .taken)
+
+-- a way out, in the loop behind block_holds, if1
+returns : tie.Need-returns Inv-loop μ-loop
+returns c = c .before .before .before .loop .inv
+
+-- the sum does not wrap, in the loop behind block_holds, if1
+add-p : tie.Need-add-p Inv-loop μ-loop
+add-p c = omega (arith, c .before .before .before .loop .inv .within, c .before .before .loop-test .taken)
+
+-- the measure falls, behind block_holds, if1
+loop-less : tie.Need-loop-less Inv-loop μ-loop
+loop-less c = omega (arith, c .before .before .before .loop .inv .within, c .before .before .loop-test .taken)
+
+-- the invariant holds after a turn, behind block_holds, if1
+loop-again : tie.Need-loop-again Inv-loop μ-loop
+loop-again c =
+    let loop-test-taken = c .before .before .loop-test .taken in
+    let loop-inv = c .before .before .before .loop .inv in
+    passed-block _ loop-inv _ (omega (arith, loop-inv .within, loop-test-taken)) (sym (c .before .block-holds .ensures) ∙ c .if1 .left)
+
 pub skip-blocks-spec : {M : Type 1} → statement M
 skip-blocks-spec =
     tie.close
     (tie.spec
     Inv-loop
     μ-loop
-    (λ c. passed-none-yet _ (omega arith))
-    (λ c. omega (arith, c .loop .inv .within))
-    (λ c _. omega (arith, c .before .loop .inv .within, c .loop-test .taken))
-    (λ c. c .before .before .before .loop .inv)
-    (λ c. omega (arith, c .before .before .before .loop .inv .within, c .before .before .loop-test .taken))
-    (λ c. omega (arith, c .before .before .before .loop .inv .within, c .before .before .loop-test .taken))
-    (λ c. passed-block _ (c .before .before .before .loop .inv) _ (omega (arith, c .before .before .before .loop .inv .within, c .before .before .loop-test .taken)) (sym (c .before .block-holds .ensures) ∙ c .if1 .left))
+    loop-holds
+    sub-loop
+    block-holds-requires
+    returns
+    add-p
+    loop-less
+    loop-again
     (λ c. c .before .loop .inv))

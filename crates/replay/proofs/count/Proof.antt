@@ -5,10 +5,12 @@ use Rattle.replay.specs.Replay.{countedIn}
 use Rattle.replay.proofs.count.Statement.{statement}
 use Rattle.replay.proofs.count.Tie as tie
 
+-- a way out, behind if1, wrapping_add_u64
 returns : tie.Need-returns
 unfolding countedIn
 returns c = rw (lt-ltb _ _ (c .before .before .if1 .taken), c .wrapping-add-u64 .ensures)
 
+-- a way out, behind if1
 returns-2 : tie.Need-returns-2
 unfolding countedIn
 returns-2 c = rw (le-ltb _ _ (c .if1 .left))

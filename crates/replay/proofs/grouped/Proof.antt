@@ -5,10 +5,12 @@ use Rattle.replay.specs.Replay.{groupOf}
 use Rattle.replay.proofs.grouped.Statement.{statement}
 use Rattle.replay.proofs.grouped.Tie as tie
 
+-- a way out, behind if1
 returns : tie.Need-returns
 unfolding groupOf
 returns c = rw (lt-ltb _ _ (c .if1 .taken))
 
+-- a way out, behind if1, index
 returns-2 : tie.Need-returns-2
 unfolding groupOf
 returns-2 c = rw (le-ltb _ _ (c .before .if1 .left), ← c .index .ensures .0)

@@ -3,10 +3,12 @@ use Rattle.replay.specs.Replay.{judge}
 use Rattle.replay.proofs.judged.Statement.{statement}
 use Rattle.replay.proofs.judged.Tie as tie
 
+-- a way out, behind if1
 returns : tie.Need-returns
 unfolding judge
 returns c = rw (c .if1 .taken)
 
+-- a way out, behind if1
 returns-2 : tie.Need-returns-2
 unfolding judge
 returns-2 c = rw (c .if1 .left)

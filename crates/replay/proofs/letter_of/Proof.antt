@@ -4,22 +4,27 @@ use Rattle.replay.specs.Replay.{letterOf}
 use Rattle.replay.proofs.letter_of.Statement.{statement}
 use Rattle.replay.proofs.letter_of.Tie as tie
 
+-- a way out
 returns : tie.Need-returns
 unfolding letterOf
 returns c = rw (c .match .keys1)
 
+-- a way out
 returns-2 : tie.Need-returns-2
 unfolding letterOf
 returns-2 c = rw (c .match .keys2)
 
+-- a way out
 returns-3 : tie.Need-returns-3
 unfolding letterOf
 returns-3 c = rw (c .match .keys3)
 
+-- a way out
 returns-4 : tie.Need-returns-4
 unfolding letterOf
 returns-4 c = rw (c .match .keys4)
 
+-- a way out
 returns-5 : tie.Need-returns-5
 unfolding letterOf
 returns-5 c = rw (ne-eqb _ 0 (c .match .rest .0 .0 .0 .1), ne-eqb _ 1 (c .match .rest .0 .0 .1), ne-eqb _ 2 (c .match .rest .0 .1), ne-eqb _ 3 (c .match .rest .1))

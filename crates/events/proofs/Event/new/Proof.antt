@@ -3,6 +3,10 @@ use borrow.Author.Needs.{needs}
 use Rattle.events.proofs.Event.new.Statement.{statement}
 use Rattle.events.proofs.Event.new.Tie as tie
 
+-- a way out, behind encoding_number
+returns : tie.Need-returns
+returns c = rw (c .encoding-number .ensures)
+
 pub new-spec : {M : Type 1} → statement M
 new-spec =
     tie.close
@@ -10,4 +14,4 @@ new-spec =
     (λ c. search needs)
     (λ c. search needs)
     (λ c _. search needs)
-    (λ c. rw (c .encoding-number .ensures)))
+    returns)

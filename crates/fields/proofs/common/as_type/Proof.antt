@@ -4,10 +4,12 @@ use Rattle.fields.specs.Common.{typed}
 use Rattle.fields.proofs.common.as_type.Statement.{statement}
 use Rattle.fields.proofs.common.as_type.Tie as tie
 
+-- a way out, behind b
 returns : tie.Need-returns
 unfolding typed
 returns c = rw (c .before .b .given .1)
 
+-- a way out, behind Unsupplied
 returns-2 : tie.Need-returns-2
 unfolding typed
 returns-2 c = rw (c .enum-told .given .1)

@@ -6,6 +6,36 @@ use Rattle.fields.proofs.Bdrys.{bounded-room, says-other, says-plain, s
 use Rattle.fields.proofs.common.by_type.Statement.{statement}
 use Rattle.fields.proofs.common.by_type.Tie as tie
 
+-- the sum does not wrap, behind content_type Bounded(o, n)
+add-t16 : tie.Need-add-t16
+add-t16 c =
+    let after-content-type = c .before .before .before in
+    let content-type-ensures = after-content-type .content-type .ensures in
+    let pre = after-content-type .before .before .before .pre in
+    omega (arith, bounded-room _ _ _ _ _ (pre .0) (pre .1) (sym content-type-ensures ∙ c .before .o .given .1))
+
+-- a way out, behind content_type Other
+returns : tie.Need-returns
+returns c =
+    let content-type-ensures = c .before .before .content-type .ensures in
+    let pre = c .before .before .before .before .before .pre in
+    says-other _ _ _ _ _ (pre .0) (pre .1) (sym content-type-ensures ∙ c .enum-told .given .1)
+
+-- a way out, behind content_type Plain
+returns-2 : tie.Need-returns-2
+returns-2 c =
+    let content-type-ensures = c .before .before .content-type .ensures in
+    let pre = c .before .before .before .before .before .pre in
+    says-plain _ _ _ _ _ (pre .0) (pre .1) (sym content-type-ensures ∙ c .enum-told2 .given .1)
+
+-- a way out, behind content_type Bounded(o, n)
+returns-3 : tie.Need-returns-3
+returns-3 c =
+    let after-content-type = c .before .before .before in
+    let content-type-ensures = after-content-type .content-type .ensures in
+    let pre = after-content-type .before .before .before .pre in
+    says-bounded _ _ _ _ _ (pre .0) (pre .1) _ _ (sym content-type-ensures ∙ c .before .o .given .1)
+
 pub by-type-spec : {M : Type 1} → statement M
 by-type-spec =
     tie.close
@@ -17,7 +47,7 @@ by-type-spec =
     (λ c. search needs)
     (λ c. search needs)
     (λ c. search needs)
-    (λ c. omega (arith, bounded-room _ _ _ _ _ (c .before .before .before .before .before .before .pre .0) (c .before .before .before .before .before .before .pre .1) (sym (c .before .before .before .content-type .ensures) ∙ c .before .o .given .1)))
-    (λ c. says-other _ _ _ _ _ (c .before .before .before .before .before .pre .0) (c .before .before .before .before .before .pre .1) (sym (c .before .before .content-type .ensures) ∙ c .enum-told .given .1))
-    (λ c. says-plain _ _ _ _ _ (c .before .before .before .before .before .pre .0) (c .before .before .before .before .before .pre .1) (sym (c .before .before .content-type .ensures) ∙ c .enum-told2 .given .1))
-    (λ c. says-bounded _ _ _ _ _ (c .before .before .before .before .before .before .pre .0) (c .before .before .before .before .before .before .pre .1) _ _ (sym (c .before .before .before .content-type .ensures) ∙ c .before .o .given .1)))
+    add-t16
+    returns
+    returns-2
+    returns-3)

@@ -7,6 +7,7 @@ use Rattle.fields.specs.declared.common.Bdry.the-variants.{Of}
 use Rattle.fields.proofs.common.unquoted.Statement.{statement}
 use Rattle.fields.proofs.common.unquoted.Tie as tie
 
+-- a way out, behind leading
 returns : tie.Need-returns
 unfolding unquoted
 returns c = ap (Of (c .before .before .before .args .o)) (rw rest-is at (c .leading .ensures))

@@ -8,13 +8,23 @@ use Rattle.fields.proofs.Behind.{run-none, run-some, run-within, behind
 use Rattle.fields.proofs.imap.append.Statement.{statement}
 use Rattle.fields.proofs.imap.append.Tie as tie
 
+-- a way out, behind leading, if1
 returns : tie.Need-returns
 unfolding isAppend
 returns c = rw (run-none Dark _ (c .before .leading .ensures) (omega arith))
 
+-- the difference is not below 0, behind leading, if1
+sub-append-follows : tie.Need-sub-append-follows
+sub-append-follows c = run-within Dark _ (c .before .leading .ensures)
+
+-- a way out, behind leading, if1, append_follows
 returns-2 : tie.Need-returns-2
 unfolding isAppend
-returns-2 c = rw (run-some Dark _ (c .before .before .before .leading .ensures) (omega arith)) (c .append-follows .ensures ∙ ap appendFollows (behind-run Dark (c .before .before .before .before .before .args .l .now) (c .before .before .before .leading .ensures)))
+returns-2 c =
+    let after-leading = c .before .before .before in
+    let leading-ensures = after-leading .leading .ensures in
+    let start = after-leading .before .before in
+    rw (run-some Dark _ leading-ensures (omega arith)) (c .append-follows .ensures ∙ ap appendFollows (behind-run Dark (start .args .l .now) leading-ensures))
 
 pub append-spec : {M : Type 1} → statement M
 append-spec =
@@ -22,8 +32,8 @@ append-spec =
     (tie.spec
     (λ c _. search needs)
     returns
-    (λ c. run-within Dark _ (c .before .leading .ensures))
-    (λ c. run-within Dark _ (c .before .leading .ensures))
+    sub-append-follows
+    sub-append-follows
     (λ c. search needs)
     (λ c _. search needs)
     returns-2)

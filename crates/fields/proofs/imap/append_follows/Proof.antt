@@ -9,13 +9,25 @@ use Rattle.fields.proofs.Behind.{run-none, run-some, run-within, behind
 use Rattle.fields.proofs.imap.append_follows.Statement.{statement}
 use Rattle.fields.proofs.imap.append_follows.Tie as tie
 
+-- a way out, behind leading, if1
 returns : tie.Need-returns
 unfolding appendFollows
-returns c = rw (run-none Blanks (c .before .before .before .args .l .now) (c .before .leading .ensures) (omega arith))
+returns c =
+    let start = c .before .before .before in
+    rw (run-none Blanks (start .args .l .now) (c .before .leading .ensures) (omega arith))
 
+-- the difference is not below 0, behind leading, if1
+sub-starts-with : tie.Need-sub-starts-with
+sub-starts-with c = run-within Blanks _ (c .before .leading .ensures)
+
+-- a way out, behind leading, if1, starts_with
 returns-2 : tie.Need-returns-2
 unfolding appendFollows
-returns-2 c = rw (run-some Blanks _ (c .before .before .before .before .leading .ensures) (omega arith)) (c .starts-with .ensures ∙ ap (startsWith _) (behind-run Blanks (c .before .before .before .before .before .before .args .l .now) (c .before .before .before .before .leading .ensures)))
+returns-2 c =
+    let after-leading = c .before .before .before .before in
+    let leading-ensures = after-leading .leading .ensures in
+    let start = after-leading .before .before in
+    rw (run-some Blanks _ leading-ensures (omega arith)) (c .starts-with .ensures ∙ ap (startsWith _) (behind-run Blanks (start .args .l .now) leading-ensures))
 
 pub append-follows-spec : {M : Type 1} → statement M
 append-follows-spec =
@@ -23,8 +35,8 @@ append-follows-spec =
     (tie.spec
     (λ c _. search needs)
     returns
-    (λ c. run-within Blanks _ (c .before .leading .ensures))
-    (λ c. run-within Blanks _ (c .before .leading .ensures))
+    sub-starts-with
+    sub-starts-with
     (λ c. search needs)
     (λ c. search needs)
     (λ c _. search needs)

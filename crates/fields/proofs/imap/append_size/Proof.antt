@@ -8,6 +8,13 @@ use Rattle.fields.proofs.Last.{through-within}
 use Rattle.fields.proofs.imap.append_size.Statement.{statement}
 use Rattle.fields.proofs.imap.append_size.Tie as tie
 
+-- the index lies inside, behind dark_end
+slice-aggregate-size-of : tie.Need-slice-aggregate-size-of
+slice-aggregate-size-of c =
+    let l = c .before .before .before .args .l .now in
+    sym (length-take-le _ l (omega (arith, c .before .dark-end .ensures, through-within (dark l) l)))
+
+-- a way out, behind dark_end, size_of
 returns : tie.Need-returns
 unfolding appendSize trimmed
 returns c = rw (sym (c .before .before .dark-end .ensures)) (c .size-of .ensures)
@@ -17,6 +24,6 @@ append-size-spec =
     tie.close
     (tie.spec
     (λ c _. search needs)
-    (λ c. sym (length-take-le _ (c .before .before .before .args .l .now) (omega (arith, c .before .dark-end .ensures, through-within (dark (c .before .before .before .args .l .now)) (c .before .before .before .args .l .now)))))
+    slice-aggregate-size-of
     (λ c _. search needs)
     returns)

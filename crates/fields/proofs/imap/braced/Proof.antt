@@ -31,13 +31,58 @@ module _ (l : List ℕ) {n : ℕ} (e : n ≡ lead Digits l) (h : 0 < n) (t : sta
   braced-too-big : upTo (2 ^ 64 - 1) (worth (take n l)) ≡ TooBig → 0 ≡ braced l
   braced-too-big q = too-big-none (2 ^ 64 - 1) (worth (take n l)) q ∙ sym braced-is
 
+-- a way out, behind leading, if1
 returns : tie.Need-returns
 unfolding braced
 returns c = rw (run-none Digits _ (c .before .leading .ensures) (omega arith))
 
+-- the difference is not below 0, behind leading, if1
+sub-starts-with : tie.Need-sub-starts-with
+sub-starts-with c = run-within Digits _ (c .before .leading .ensures)
+
+-- a way out, behind leading, if1, starts_with, if2
 returns-2 : tie.Need-returns-2
 unfolding braced
-returns-2 c = rw (run-some Digits _ (c .before .before .before .before .before .leading .ensures) (omega arith), ap (startsWith _) (sym (behind-run Digits (c .before .before .before .before .before .before .before .args .l .now) (c .before .before .before .before .before .leading .ensures))) ∙ sym (c .before .starts-with .ensures) ∙ not-true _ (c .if2 .taken))
+returns-2 c =
+    let after-leading = c .before .before .before .before .before in
+    let leading-ensures = after-leading .leading .ensures in
+    let start = after-leading .before .before in
+    rw (
+      run-some Digits _ leading-ensures (omega arith),
+      ap (startsWith _) (sym (behind-run Digits (start .args .l .now) leading-ensures)) ∙ sym (c .before .starts-with .ensures)
+          ∙ not-true _ (c .if2 .taken),
+    )
+
+-- the index lies inside, behind leading, if1, starts_with, if2
+slice-aggregate-decimal : tie.Need-slice-aggregate-decimal
+slice-aggregate-decimal c = run-length Digits _ (c .before .before .before .before .before .before .leading .ensures)
+
+-- a way out, behind leading, if1, starts_with, if2, decimal Worth(size)
+returns-3 : tie.Need-returns-3
+returns-3 c =
+    let after-decimal = c .before .before .before in
+    let decimal-ensures = after-decimal .decimal .ensures in
+    let after-if2 = after-decimal .before .before in
+    let if2-left = after-if2 .if2 .left in
+    let after-starts-with = after-if2 .before in
+    let starts-with-ensures = after-starts-with .starts-with .ensures in
+    let after-leading = after-starts-with .before .before .before .before in
+    let leading-ensures = after-leading .leading .ensures in
+    let start = after-leading .before .before in
+    braced-worth (start .args .l .now) leading-ensures (omega arith) (sym starts-with-ensures ∙ not-false _ if2-left) (sym decimal-ensures ∙ c .before .size .given .1)
+
+-- a way out, behind leading, if1, starts_with, if2, decimal TooBig
+returns-4 : tie.Need-returns-4
+returns-4 c =
+    let decimal-ensures = c .before .before .decimal .ensures in
+    let after-if2 = c .before .before .before .before in
+    let if2-left = after-if2 .if2 .left in
+    let after-starts-with = after-if2 .before in
+    let starts-with-ensures = after-starts-with .starts-with .ensures in
+    let after-leading = after-starts-with .before .before .before .before in
+    let leading-ensures = after-leading .leading .ensures in
+    let start = after-leading .before .before in
+    braced-too-big (start .args .l .now) leading-ensures (omega arith) (sym starts-with-ensures ∙ not-false _ if2-left) (sym decimal-ensures ∙ c .enum-told .given .1)
 
 pub braced-spec : {M : Type 1} → statement M
 braced-spec =
@@ -45,15 +90,15 @@ braced-spec =
     (tie.spec
     (λ c _. search needs)
     returns
-    (λ c. run-within Digits _ (c .before .leading .ensures))
-    (λ c. run-within Digits _ (c .before .leading .ensures))
+    sub-starts-with
+    sub-starts-with
     (λ c. search needs)
     (λ c. search needs)
     (λ c _. search needs)
     returns-2
-    (λ c. run-length Digits _ (c .before .before .before .before .before .before .leading .ensures))
+    slice-aggregate-decimal
     (λ c _. search needs)
     (λ c. search needs)
     (λ c. search needs)
-    (λ c. braced-worth (c .before .before .before .before .before .before .before .before .before .before .before .before .args .l .now) (c .before .before .before .before .before .before .before .before .before .before .leading .ensures) (omega arith) (sym (c .before .before .before .before .before .before .starts-with .ensures) ∙ not-false _ (c .before .before .before .before .before .if2 .left)) (sym (c .before .before .before .decimal .ensures) ∙ c .before .size .given .1))
-    (λ c. braced-too-big (c .before .before .before .before .before .before .before .before .before .before .before .args .l .now) (c .before .before .before .before .before .before .before .before .before .leading .ensures) (omega arith) (sym (c .before .before .before .before .before .starts-with .ensures) ∙ not-false _ (c .before .before .before .before .if2 .left)) (sym (c .before .before .decimal .ensures) ∙ c .enum-told .given .1)))
+    returns-3
+    returns-4)

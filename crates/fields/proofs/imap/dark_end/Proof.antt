@@ -14,13 +14,31 @@ Inv-loop l n₀ n = Back (dark l) l n
 abbrev μ-loop : tie.MeasureT-loop
 μ-loop l n₀ n = n
 
+-- the index lies inside, in the loop
+shared-slice-read-is-white : tie.Need-shared-slice-read-is-white Inv-loop μ-loop
+shared-slice-read-is-white c = omega (arith, c .before .before .loop .inv .within)
+
+-- a way out, in the loop behind is_white, if1
 returns : tie.Need-returns Inv-loop μ-loop
 unfolding dark
-returns c = back-through (c .before .before .before .before .loop .inv) (c .before .before .before .loop-test .taken) (ap not (sym (c .before .is-white .ensures)) ∙ c .if1 .taken)
+returns c =
+    let after-loop-test = c .before .before .before in
+    let loop-test-taken = after-loop-test .loop-test .taken in
+    let loop-inv = after-loop-test .before .loop .inv in
+    back-through loop-inv loop-test-taken (ap not (sym (c .before .is-white .ensures)) ∙ c .if1 .taken)
 
+-- the invariant holds after a turn, behind is_white, if1
 loop-again : tie.Need-loop-again Inv-loop μ-loop
 unfolding dark
-loop-again c = back-on (c .before .before .before .before .loop .inv) (c .before .before .before .loop-test .taken) (ap not (sym (c .before .is-white .ensures)) ∙ c .if1 .left)
+loop-again c =
+    let after-loop-test = c .before .before .before in
+    let loop-test-taken = after-loop-test .loop-test .taken in
+    let loop-inv = after-loop-test .before .loop .inv in
+    back-on loop-inv loop-test-taken (ap not (sym (c .before .is-white .ensures)) ∙ c .if1 .left)
+
+-- a way out, in the loop
+returns-2 : tie.Need-returns-2 Inv-loop μ-loop
+returns-2 c = back-through-none (c .before .loop .inv) (c .loop-test .left)
 
 pub dark-end-spec : {M : Type 1} → statement M
 dark-end-spec =
@@ -30,10 +48,10 @@ dark-end-spec =
     μ-loop
     (λ c. back-none-yet _ _)
     (λ c. search needs)
-    (λ c. omega (arith, c .before .before .loop .inv .within))
+    shared-slice-read-is-white
     (λ c _. search needs)
     returns
     (λ c. search needs)
     (λ c. search needs)
     loop-again
-    (λ c. back-through-none (c .before .loop .inv) (c .loop-test .left)))
+    returns-2)

@@ -6,10 +6,12 @@ use Rattle.fields.specs.Imap.{holdsColon}
 use Rattle.fields.proofs.imap.has_colon.Statement.{statement}
 use Rattle.fields.proofs.imap.has_colon.Tie as tie
 
+-- a way out, behind find At(_)
 returns : tie.Need-returns
 unfolding holdsColon contains found
 returns c = rw (sym (c .before .before .find .ensures) ∙ c .enum-told .given .1)
 
+-- a way out, behind find Nowhere
 returns-2 : tie.Need-returns-2
 unfolding holdsColon contains found
 returns-2 c = rw (sym (c .before .before .find .ensures) ∙ c .enum-told2 .given .1)

@@ -9,13 +9,23 @@ use Rattle.fields.proofs.Behind.{run-none, run-some, run-within, behind
 use Rattle.fields.proofs.pop3.octets_follow.Statement.{statement}
 use Rattle.fields.proofs.pop3.octets_follow.Tie as tie
 
+-- a way out, behind leading, if1
 returns : tie.Need-returns
 unfolding octetsFollow
 returns c = rw (run-none PopWhite _ (c .before .leading .ensures) (omega arith))
 
+-- the difference is not below 0, behind leading, if1
+sub-starts-with : tie.Need-sub-starts-with
+sub-starts-with c = run-within PopWhite _ (c .before .leading .ensures)
+
+-- a way out, behind leading, if1, starts_with
 returns-2 : tie.Need-returns-2
 unfolding octetsFollow
-returns-2 c = rw (run-some PopWhite _ (c .before .before .before .before .leading .ensures) (omega arith)) (c .starts-with .ensures ∙ ap (startsWith _) (behind-run PopWhite (c .before .before .before .before .before .before .args .l .now) (c .before .before .before .before .leading .ensures)))
+returns-2 c =
+    let after-leading = c .before .before .before .before in
+    let leading-ensures = after-leading .leading .ensures in
+    let start = after-leading .before .before in
+    rw (run-some PopWhite _ leading-ensures (omega arith)) (c .starts-with .ensures ∙ ap (startsWith _) (behind-run PopWhite (start .args .l .now) leading-ensures))
 
 pub octets-follow-spec : {M : Type 1} → statement M
 octets-follow-spec =
@@ -23,8 +33,8 @@ octets-follow-spec =
     (tie.spec
     (λ c _. search needs)
     returns
-    (λ c. run-within PopWhite _ (c .before .leading .ensures))
-    (λ c. run-within PopWhite _ (c .before .leading .ensures))
+    sub-starts-with
+    sub-starts-with
     (λ c. search needs)
     (λ c. search needs)
     (λ c _. search needs)

@@ -14,17 +14,43 @@ use Rattle.fields.proofs.Behind.{run-none, run-some, run-within, behind
 use Rattle.fields.proofs.pop3.retr_answer.Statement.{statement}
 use Rattle.fields.proofs.pop3.retr_answer.Tie as tie
 
+-- a way out, behind starts_with, if1
 returns : tie.Need-returns
 unfolding retrAnswer
 returns c = rw (sym (c .before .starts-with .ensures) ∙ not-true _ (c .if1 .taken))
 
+-- the difference is not below 0, behind starts_with, if1
+sub-rest : tie.Need-sub-rest
+sub-rest c = starts-long _ _ (sym (c .before .starts-with .ensures) ∙ not-false _ (c .if1 .left))
+
+-- a way out, behind starts_with, if1, rest, leading, if2
 returns-2 : tie.Need-returns-2
 unfolding retrAnswer
-returns-2 c = rw (sym (c .before .before .before .before .starts-with .ensures) ∙ not-false _ (c .before .before .before .if1 .left), run-none PopWhite _ (c .before .leading .ensures ∙ ap (lead PopWhite) (rest-is (c .before .before .before .before .before .before .before .args .l .now) 3)) (omega arith))
+returns-2 c =
+    let after-if1 = c .before .before .before in
+    let if1-left = after-if1 .if1 .left in
+    let after-starts-with = after-if1 .before in
+    let starts-with-ensures = after-starts-with .starts-with .ensures in
+    let start = after-starts-with .before .before .before in
+    rw (sym starts-with-ensures ∙ not-false _ if1-left, run-none PopWhite _ (c .before .leading .ensures ∙ ap (lead PopWhite) (rest-is (start .args .l .now) 3)) (omega arith))
 
+-- the difference is not below 0, behind starts_with, if1, rest, leading, if2
+sub-numbered : tie.Need-sub-numbered
+sub-numbered c = run-within PopWhite _ (c .before .leading .ensures)
+
+-- a way out, behind starts_with, if1, rest, leading, if2, numbered
 returns-3 : tie.Need-returns-3
 unfolding retrAnswer
-returns-3 c = rw (sym (c .before .before .before .before .before .before .starts-with .ensures) ∙ not-false _ (c .before .before .before .before .before .if1 .left), run-some PopWhite _ (c .before .before .before .leading .ensures ∙ ap (lead PopWhite) (rest-is (c .before .before .before .before .before .before .before .before .before .args .l .now) 3)) (omega arith)) (c .numbered .ensures ∙ ap numbered (behind-run PopWhite _ (c .before .before .before .leading .ensures)) ∙ ap (λ (m : List ℕ). numbered (drop (lead PopWhite m) m)) (rest-is (c .before .before .before .before .before .before .before .before .before .args .l .now) 3))
+returns-3 c =
+    let after-leading = c .before .before .before in
+    let leading-ensures = after-leading .leading .ensures in
+    let after-if1 = after-leading .before .before in
+    let if1-left = after-if1 .if1 .left in
+    let after-starts-with = after-if1 .before in
+    let starts-with-ensures = after-starts-with .starts-with .ensures in
+    let l = after-starts-with .before .before .before .args .l .now in
+    rw (sym starts-with-ensures ∙ not-false _ if1-left, run-some PopWhite _ (leading-ensures ∙ ap (lead PopWhite) (rest-is l 3)) (omega arith))
+    (c .numbered .ensures ∙ ap numbered (behind-run PopWhite _ leading-ensures) ∙ ap (λ (m : List ℕ). numbered (drop (lead PopWhite m) m)) (rest-is l 3))
 
 pub retr-answer-spec : {M : Type 1} → statement M
 retr-answer-spec =
@@ -33,13 +59,13 @@ retr-answer-spec =
     (λ c. search needs)
     (λ c _. search needs)
     returns
-    (λ c. starts-long _ _ (sym (c .before .starts-with .ensures) ∙ not-false _ (c .if1 .left)))
-    (λ c. starts-long _ _ (sym (c .before .starts-with .ensures) ∙ not-false _ (c .if1 .left)))
+    sub-rest
+    sub-rest
     (λ c. search needs)
     (λ c _. search needs)
     returns-2
-    (λ c. run-within PopWhite _ (c .before .leading .ensures))
-    (λ c. run-within PopWhite _ (c .before .leading .ensures))
+    sub-numbered
+    sub-numbered
     (λ c. search needs)
     (λ c _. search needs)
     returns-3)

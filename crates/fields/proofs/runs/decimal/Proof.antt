@@ -13,6 +13,36 @@ Inv-loop digits max n₀ i₀ n i = Added max digits n i
 abbrev μ-loop : tie.MeasureT-loop
 μ-loop digits max n₀ i₀ n i = length digits - i
 
+-- a way out, in the loop behind digit, if1
+returns : tie.Need-returns Inv-loop μ-loop
+returns c =
+    let after-loop-test = c .before .before .before in
+    let loop-test-taken = after-loop-test .loop-test .taken in
+    let loop-inv = after-loop-test .before .loop .inv in
+    added-over loop-inv loop-test-taken (c .before .digit .ensures) (omega arith)
+
+-- a way out, in the loop behind digit, if1, if2
+returns-2 : tie.Need-returns-2 Inv-loop μ-loop
+returns-2 c =
+    let digit-ensures = c .before .before .digit .ensures in
+    let after-loop-test = c .before .before .before .before in
+    let loop-test-taken = after-loop-test .loop-test .taken in
+    let loop-inv = after-loop-test .before .loop .inv in
+    added-over loop-inv loop-test-taken digit-ensures (omega arith)
+
+-- the invariant holds after a turn, behind digit, if1, if2
+loop-again : tie.Need-loop-again Inv-loop μ-loop
+loop-again c =
+    let digit-ensures = c .before .before .digit .ensures in
+    let after-loop-test = c .before .before .before .before in
+    let loop-test-taken = after-loop-test .loop-test .taken in
+    let loop-inv = after-loop-test .before .loop .inv in
+    added-on loop-inv loop-test-taken digit-ensures (c .before .if1 .left) (c .if2 .left)
+
+-- a way out, in the loop
+returns-3 : tie.Need-returns-3 Inv-loop μ-loop
+returns-3 c = added-all (c .before .loop .inv) (c .loop-test .left)
+
 pub decimal-spec : {M : Type 1} → statement M
 decimal-spec =
     tie.close
@@ -22,11 +52,11 @@ decimal-spec =
     (λ c. added-none-yet _ _)
     (λ c. search needs)
     (λ c _. search needs)
-    (λ c. added-over (c .before .before .before .before .loop .inv) (c .before .before .before .loop-test .taken) (c .before .digit .ensures) (omega arith))
-    (λ c. added-over (c .before .before .before .before .before .loop .inv) (c .before .before .before .before .loop-test .taken) (c .before .before .digit .ensures) (omega arith))
+    returns
+    returns-2
     (λ c. omega arith)
     (λ c. omega arith)
     (λ c. search needs)
     (λ c. search needs)
-    (λ c. added-on (c .before .before .before .before .before .loop .inv) (c .before .before .before .before .loop-test .taken) (c .before .before .digit .ensures) (c .before .if1 .left) (c .if2 .left))
-    (λ c. added-all (c .before .loop .inv) (c .loop-test .left)))
+    loop-again
+    returns-3)

@@ -14,13 +14,29 @@ Inv-loop l b n₀ n = Back (holds b l) l n
 abbrev μ-loop : tie.MeasureT-loop
 μ-loop l b n₀ n = n
 
+-- the index lies inside, in the loop
+shared-slice-read-if1 : tie.Need-shared-slice-read-if1 Inv-loop μ-loop
+shared-slice-read-if1 c = omega (arith, c .before .before .loop .inv .within)
+
+-- a way out, in the loop behind if1
 returns : tie.Need-returns Inv-loop μ-loop
 unfolding holds
-returns c = sym (back-here (c .before .before .before .loop .inv) (c .before .before .loop-test .taken) (eq-eqb _ _ (c .if1 .taken)))
+returns c =
+    let loop-test-taken = c .before .before .loop-test .taken in
+    let loop-inv = c .before .before .before .loop .inv in
+    sym (back-here loop-inv loop-test-taken (eq-eqb _ _ (c .if1 .taken)))
 
+-- the invariant holds after a turn, behind if1
 loop-again : tie.Need-loop-again Inv-loop μ-loop
 unfolding holds
-loop-again c = back-on (c .before .before .before .loop .inv) (c .before .before .loop-test .taken) (ne-eqb _ _ (c .if1 .left))
+loop-again c =
+    let loop-test-taken = c .before .before .loop-test .taken in
+    let loop-inv = c .before .before .before .loop .inv in
+    back-on loop-inv loop-test-taken (ne-eqb _ _ (c .if1 .left))
+
+-- a way out, in the loop
+returns-2 : tie.Need-returns-2 Inv-loop μ-loop
+returns-2 c = sym (back-in-vain (c .before .loop .inv) (c .loop-test .left))
 
 pub find-last-spec : {M : Type 1} → statement M
 find-last-spec =
@@ -30,9 +46,9 @@ find-last-spec =
     μ-loop
     (λ c. back-none-yet _ _)
     (λ c. search needs)
-    (λ c. omega (arith, c .before .before .loop .inv .within))
+    shared-slice-read-if1
     returns
     (λ c. search needs)
     (λ c. search needs)
     loop-again
-    (λ c. sym (back-in-vain (c .before .loop .inv) (c .loop-test .left))))
+    returns-2)

@@ -4,6 +4,7 @@ use Rattle.fields.specs.Smtp.{isData}
 use Rattle.fields.proofs.smtp.is_data.Statement.{statement}
 use Rattle.fields.proofs.smtp.is_data.Tie as tie
 
+-- a way out, behind equals_any_case
 returns : tie.Need-returns
 unfolding isData
 returns c = c .equals-any-case .ensures

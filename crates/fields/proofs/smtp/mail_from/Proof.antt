@@ -8,17 +8,43 @@ use Rattle.fields.specs.Smtp.{fromField, closing, upToEnd, mailFrom}
 use Rattle.fields.proofs.smtp.mail_from.Statement.{statement}
 use Rattle.fields.proofs.smtp.mail_from.Tie as tie
 
+-- a way out, behind starts_with, if1
 returns : tie.Need-returns
 unfolding mailFrom
 returns c = rw (sym (c .before .starts-with .ensures) ∙ not-true _ (c .if1 .taken))
 
+-- the difference is not below 0, behind starts_with, if1
+sub-find-byte : tie.Need-sub-find-byte
+sub-find-byte c = omega (arith, starts-long fromField _ (sym (c .before .starts-with .ensures) ∙ not-false _ (c .if1 .left)))
+
+-- the difference is not below 0, behind starts_with, if1, find_byte Nowhere
+sub-t15 : tie.Need-sub-t15
+sub-t15 c =
+    let after-if1 = c .before .before .before .before in
+    let if1-left = after-if1 .if1 .left in
+    let starts-with-ensures = after-if1 .before .starts-with .ensures in
+    omega (arith, starts-long fromField _ (sym starts-with-ensures ∙ not-false _ if1-left))
+
+-- a way out, behind starts_with, if1, find_byte At(n)
 returns-2 : tie.Need-returns-2
 unfolding mailFrom closing upToEnd
-returns-2 c = rw (sym (c .before .before .before .before .before .before .starts-with .ensures) ∙ not-false _ (c .before .before .before .before .before .if1 .left), rw rest-is at (sym (c .before .before .before .find-byte .ensures) ∙ c .before .n .given .1))
+returns-2 c =
+    let after-find-byte = c .before .before .before in
+    let find-byte-ensures = after-find-byte .find-byte .ensures in
+    let after-if1 = after-find-byte .before .before in
+    let if1-left = after-if1 .if1 .left in
+    let starts-with-ensures = after-if1 .before .starts-with .ensures in
+    rw (sym starts-with-ensures ∙ not-false _ if1-left, rw rest-is at (sym find-byte-ensures ∙ c .before .n .given .1))
 
+-- a way out, behind starts_with, if1, find_byte Nowhere
 returns-3 : tie.Need-returns-3
 unfolding mailFrom closing upToEnd
-returns-3 c = rw (sym (c .before .before .before .before .before .starts-with .ensures) ∙ not-false _ (c .before .before .before .before .if1 .left), rw rest-is at (sym (c .before .before .find-byte .ensures) ∙ c .enum-told .given .1))
+returns-3 c =
+    let find-byte-ensures = c .before .before .find-byte .ensures in
+    let after-if1 = c .before .before .before .before in
+    let if1-left = after-if1 .if1 .left in
+    let starts-with-ensures = after-if1 .before .starts-with .ensures in
+    rw (sym starts-with-ensures ∙ not-false _ if1-left, rw rest-is at (sym find-byte-ensures ∙ c .enum-told .given .1))
 
 pub mail-from-spec : {M : Type 1} → statement M
 mail-from-spec =
@@ -27,12 +53,12 @@ mail-from-spec =
     (λ c. search needs)
     (λ c _. search needs)
     returns
-    (λ c. omega (arith, starts-long fromField _ (sym (c .before .starts-with .ensures) ∙ not-false _ (c .if1 .left))))
-    (λ c. omega (arith, starts-long fromField _ (sym (c .before .starts-with .ensures) ∙ not-false _ (c .if1 .left))))
+    sub-find-byte
+    sub-find-byte
     (λ c. search needs)
     (λ c _. search needs)
     (λ c. search needs)
     (λ c. search needs)
-    (λ c. omega (arith, starts-long fromField _ (sym (c .before .before .before .before .before .starts-with .ensures) ∙ not-false _ (c .before .before .before .before .if1 .left))))
+    sub-t15
     returns-2
     returns-3)

@@ -7,6 +7,21 @@ use Rattle.sessions.proofs.Steps.{note-stop, note}
 use Rattle.sessions.proofs.body.body.Statement.{statement}
 use Rattle.sessions.proofs.body.body.Tie as tie
 
+-- a way out, behind note Stopped(a)
+returns : tie.Need-returns
+returns c =
+    let note-ensures = c .before .before .before .before .before .note .ensures in
+    λ m. note-stop [] (reads (text m _)) (rw (c .before .a .given .1) at note-ensures)
+
+-- a way out, behind note Written(next), body_lines
+returns-2 : tie.Need-returns-2
+returns-2 c =
+    let body-lines-ensures = c .before .before .body-lines .ensures in
+    let after-next = c .before .before .before .before .before in
+    let next-is = after-next .next .given .1 in
+    let note-ensures = after-next .before .before .before .before .note .ensures in
+    λ m. note [] (reads (text m _)) (rw next-is at note-ensures) (body-lines-ensures m)
+
 pub body-spec : {M : Type 1} → statement M
 body-spec =
     tie.close
@@ -16,6 +31,6 @@ body-spec =
     (λ c. search needs)
     (λ c _. search needs)
     (λ c. search needs)
-    (λ c. λ m. note-stop [] (reads (text m _)) (rw (c .before .a .given .1) at (c .before .before .before .before .before .note .ensures)))
+    returns
     (λ c. search needs)
-    (λ c. λ m. note [] (reads (text m _)) (rw (c .before .before .before .before .before .next .given .1) at (c .before .before .before .before .before .before .before .before .before .note .ensures)) (c .before .before .body-lines .ensures m)))
+    returns-2)

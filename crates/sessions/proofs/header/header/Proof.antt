@@ -14,6 +14,116 @@ Inv-loop h base table₀ p₀ n₀ known₀ t12 table p n known = HeadAt h table
 abbrev μ-loop : tie.MeasureT-loop
 μ-loop h base table₀ p₀ n₀ known₀ t12 table p n known = length h - p
 
+-- the sum does not wrap, in the loop behind line Stop(o)
+add-stopped : tie.Need-add-stopped Inv-loop μ-loop
+add-stopped c = omega (arith, c .before .before .before .before .loop .inv .0 .within)
+
+-- a way out, in the loop behind line Stop(o), stopped
+returns : tie.Need-returns Inv-loop μ-loop
+returns c =
+    let o-is = c .before .before .o .given .1 in
+    let after-line = c .before .before .before .before in
+    let line-ensures = after-line .line .ensures in
+    let loop-inv = after-line .before .loop .inv in
+    head-short (loop-inv .0) (rw o-is at line-ensures) (c .stopped .ensures)
+
+-- the sum does not wrap, in the loop behind line To(e)
+add-note : tie.Need-add-note Inv-loop μ-loop
+add-note c = omega (arith, c .before .before .before .before .before .loop .inv .0 .within)
+
+-- the difference is not below 0, in the loop behind line To(e)
+sub-note : tie.Need-sub-note Inv-loop μ-loop
+sub-note c =
+    let e-is = c .before .before .e .given .1 in
+    let line-ensures = c .before .before .before .before .line .ensures in
+    omega (arith, (rw e-is at line-ensures) .on)
+
+-- what `note` requires, in the loop behind line To(e)
+note-requires : tie.Need-note-requires Inv-loop μ-loop
+note-requires c _ =
+    let e-is = c .before .before .e .given .1 in
+    let after-line = c .before .before .before .before in
+    let line-ensures = after-line .line .ensures in
+    let loop-inv = after-line .before .loop .inv in
+    (omega (arith, loop-inv .0 .within), omega (arith, (rw e-is at line-ensures) .within))
+
+-- a way out, in the loop behind line To(e), note Stopped(a)
+returns-2 : tie.Need-returns-2 Inv-loop μ-loop
+returns-2 c =
+    let after-note = c .before .before .before .before .before in
+    let note-ensures = after-note .note .ensures in
+    let after-e = after-note .before .before .before in
+    let e-is = after-e .e .given .1 in
+    let after-line = after-e .before .before in
+    let line-ensures = after-line .line .ensures in
+    let loop-inv = after-line .before .loop .inv in
+    head-full (loop-inv .0) (rw e-is at line-ensures) (rw (c .before .a .given .1) at note-ensures)
+
+-- the difference is not below 0, in the loop behind line To(e), note Written(next)
+sub-equals : tie.Need-sub-equals Inv-loop μ-loop
+sub-equals c =
+    let after-e = c .before .before .before .before .before .before .before .before in
+    let e-is = after-e .e .given .1 in
+    let line-ensures = after-e .before .before .line .ensures in
+    omega (arith, (rw e-is at line-ensures) .on)
+
+-- the part ends inside, in the loop behind line To(e), note Written(next)
+part-equals-end : tie.Need-part-equals-end Inv-loop μ-loop
+part-equals-end c =
+    let after-e = c .before .before .before .before .before .before .before .before in
+    let e-is = after-e .e .given .1 in
+    let line-ensures = after-e .before .before .line .ensures in
+    (rw e-is at line-ensures) .within
+
+-- a way out, in the loop behind line To(e), note Written(next), equals, if1
+returns-3 : tie.Need-returns-3 Inv-loop μ-loop
+returns-3 c =
+    let after-next = c .before .before .before .before .before in
+    let next-is = after-next .next .given .1 in
+    let after-note = after-next .before .before .before .before in
+    let note-ensures = after-note .note .ensures in
+    let after-e = after-note .before .before .before in
+    let e-is = after-e .e .given .1 in
+    let after-line = after-e .before .before in
+    let line-ensures = after-line .line .ensures in
+    let loop-inv = after-line .before .loop .inv in
+    head-blank (loop-inv .0) (rw e-is at line-ensures) (rw next-is at note-ensures) (sym (c .before .equals .ensures) ∙ c .if1 .taken)
+
+-- what `scan_line` requires, in the loop behind line To(e), note Written(next), equals, if1
+scan-line-requires : tie.Need-scan-line-requires Inv-loop μ-loop
+scan-line-requires c _ =
+    let after-e = c .before .before .before .before .before .before .before .before .before .before .before .before in
+    let e-is = after-e .e .given .1 in
+    let after-line = after-e .before .before in
+    let line-ensures = after-line .line .ensures in
+    let loop-inv = after-line .before .loop .inv in
+    let line-told = rw e-is at line-ensures in
+    (omega (arith, line-told .on), line-told .within, loop-inv .0 .inside)
+
+-- the measure falls, behind line To(e), note Written(next), equals, if1, scan_line
+loop-less : tie.Need-loop-less Inv-loop μ-loop
+loop-less c =
+    let after-e = c .before .before .before .before .before .before .before .before .before .before .before .before .before in
+    let e-is = after-e .e .given .1 in
+    let line-ensures = after-e .before .before .line .ensures in
+    let line-told = rw e-is at line-ensures in
+    omega (arith, line-told .on, line-told .within)
+
+-- the invariant holds after a turn, behind line To(e), note Written(next), equals, if1, scan_line
+loop-again : tie.Need-loop-again Inv-loop μ-loop
+loop-again c =
+    let equals-ensures = c .before .before .equals .ensures in
+    let after-next = c .before .before .before .before .before .before in
+    let next-is = after-next .next .given .1 in
+    let after-note = after-next .before .before .before .before in
+    let note-ensures = after-note .note .ensures in
+    let after-e = after-note .before .before .before in
+    let e-is = after-e .e .given .1 in
+    let after-line = after-e .before .before in
+    let line-ensures = after-line .line .ensures in
+    let loop-inv = after-line .before .loop .inv in
+    (head-line (loop-inv .0) (rw e-is at line-ensures) (rw next-is at note-ensures) (sym equals-ensures ∙ c .before .if1 .left) (c .scan-line .ensures), search needs)
+
 pub header-spec : {M : Type 1} → statement M
 header-spec =
     tie.close
@@ -23,25 +133,25 @@ header-spec =
     (λ c. (head-start _ _ _ _, refl))
     (λ c _. c .loop .inv .0 .within)
     (λ c. search needs)
-    (λ c. omega (arith, c .before .before .before .before .loop .inv .0 .within))
+    add-stopped
     (λ c _. search needs)
     (λ c. search needs)
-    (λ c. head-short (c .before .before .before .before .before .loop .inv .0) (rw (c .before .before .o .given .1) at (c .before .before .before .before .line .ensures)) (c .stopped .ensures))
+    returns
     (λ c. search needs)
-    (λ c. omega (arith, c .before .before .before .before .before .loop .inv .0 .within))
-    (λ c. omega (arith, (rw (c .before .before .e .given .1) at (c .before .before .before .before .line .ensures)) .on))
-    (λ c _. (omega (arith, c .before .before .before .before .before .loop .inv .0 .within), omega (arith, (rw (c .before .before .e .given .1) at (c .before .before .before .before .line .ensures)) .within)))
+    add-note
+    sub-note
+    note-requires
     (λ c. search needs)
     (λ c. search needs)
-    (λ c. head-full (c .before .before .before .before .before .before .before .before .before .before .before .loop .inv .0) (rw (c .before .before .before .before .before .before .before .before .e .given .1) at (c .before .before .before .before .before .before .before .before .before .before .line .ensures)) (rw (c .before .a .given .1) at (c .before .before .before .before .before .note .ensures)))
+    returns-2
     (λ c. search needs)
-    (λ c. omega (arith, (rw (c .before .before .before .before .before .before .before .before .e .given .1) at (c .before .before .before .before .before .before .before .before .before .before .line .ensures)) .on))
-    (λ c. omega (arith, (rw (c .before .before .before .before .before .before .before .before .e .given .1) at (c .before .before .before .before .before .before .before .before .before .before .line .ensures)) .on))
-    (λ c. (rw (c .before .before .before .before .before .before .before .before .e .given .1) at (c .before .before .before .before .before .before .before .before .before .before .line .ensures)) .within)
+    sub-equals
+    sub-equals
+    part-equals-end
     (λ c. search needs)
     (λ c _. search needs)
     (λ c. search needs)
-    (λ c. head-blank (c .before .before .before .before .before .before .before .before .before .before .before .before .before .before .before .loop .inv .0) (rw (c .before .before .before .before .before .before .before .before .before .before .before .before .e .given .1) at (c .before .before .before .before .before .before .before .before .before .before .before .before .before .before .line .ensures)) (rw (c .before .before .before .before .before .next .given .1) at (c .before .before .before .before .before .before .before .before .before .note .ensures)) (sym (c .before .equals .ensures) ∙ c .if1 .taken))
-    (λ c _. (omega (arith, (rw (c .before .before .before .before .before .before .before .before .before .before .before .before .e .given .1) at (c .before .before .before .before .before .before .before .before .before .before .before .before .before .before .line .ensures)) .on), (rw (c .before .before .before .before .before .before .before .before .before .before .before .before .e .given .1) at (c .before .before .before .before .before .before .before .before .before .before .before .before .before .before .line .ensures)) .within, c .before .before .before .before .before .before .before .before .before .before .before .before .before .before .before .loop .inv .0 .inside))
-    (λ c. omega (arith, (rw (c .before .before .before .before .before .before .before .before .before .before .before .before .before .e .given .1) at (c .before .before .before .before .before .before .before .before .before .before .before .before .before .before .before .line .ensures)) .on, (rw (c .before .before .before .before .before .before .before .before .before .before .before .before .before .e .given .1) at (c .before .before .before .before .before .before .before .before .before .before .before .before .before .before .before .line .ensures)) .within))
-    (λ c. (head-line (c .before .before .before .before .before .before .before .before .before .before .before .before .before .before .before .before .loop .inv .0) (rw (c .before .before .before .before .before .before .before .before .before .before .before .before .before .e .given .1) at (c .before .before .before .before .before .before .before .before .before .before .before .before .before .before .before .line .ensures)) (rw (c .before .before .before .before .before .before .next .given .1) at (c .before .before .before .before .before .before .before .before .before .before .note .ensures)) (sym (c .before .before .equals .ensures) ∙ c .before .if1 .left) (c .scan-line .ensures), search needs)))
+    returns-3
+    scan-line-requires
+    loop-less
+    loop-again)

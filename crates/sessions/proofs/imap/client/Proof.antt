@@ -18,6 +18,34 @@ Inv-loop s table₀ p₀ n₀ table p n = Walks s table₀ n₀ 0 (then [] comma
 abbrev μ-loop : tie.MeasureT-loop
 μ-loop s table₀ p₀ n₀ table p n = length s - p
 
+-- what `command` requires, in the loop
+command-requires : tie.Need-command-requires Inv-loop μ-loop
+command-requires c _ = (c .before .before .before .before .pre, c .before .loop .inv .0 .moved .1)
+
+-- a way out, in the loop behind command Stopped(a)
+returns : tie.Need-returns Inv-loop μ-loop
+returns c =
+    let after-command = c .before .before .before .before .before in
+    let command-ensures = after-command .command .ensures in
+    let loop-inv = after-command .before .before .loop .inv in
+    walked {to = λ q. reads command} (loop-inv .0) ((rw (c .before .a .given .1) at command-ensures) .walks) .is
+
+-- the measure falls, behind command Went(to, next)
+loop-less : tie.Need-loop-less Inv-loop μ-loop
+loop-less c =
+    let to-is = c .before .to .given .1 in
+    let command-ensures = c .before .before .before .before .before .command .ensures in
+    let command-told = rw to-is at command-ensures in
+    omega (arith, command-told .farther, command-told .walks .moved .1)
+
+-- the invariant holds after a turn, behind command Went(to, next)
+loop-again : tie.Need-loop-again Inv-loop μ-loop
+loop-again c =
+    let after-command = c .before .before .before .before .before in
+    let command-ensures = after-command .command .ensures in
+    let loop-inv = after-command .before .before .loop .inv in
+    (walked (loop-inv .0) ((rw (c .before .to .given .1) at command-ensures) .walks), search needs)
+
 pub client-spec : {M : Type 1} → statement M
 client-spec =
     tie.close
@@ -25,10 +53,10 @@ client-spec =
     Inv-loop
     μ-loop
     (λ c. (here 0 (omega arith), refl))
-    (λ c _. (c .before .before .before .before .pre, c .before .loop .inv .0 .moved .1))
+    command-requires
     (λ c. search needs)
     (λ c. search needs)
-    (λ c. walked {to = λ q. reads command} (c .before .before .before .before .before .before .before .loop .inv .0) ((rw (c .before .a .given .1) at (c .before .before .before .before .before .command .ensures)) .walks) .is)
+    returns
     (λ c. search needs)
-    (λ c. omega (arith, (rw (c .before .to .given .1) at (c .before .before .before .before .before .command .ensures)) .farther, (rw (c .before .to .given .1) at (c .before .before .before .before .before .command .ensures)) .walks .moved .1))
-    (λ c. (walked (c .before .before .before .before .before .before .before .loop .inv .0) ((rw (c .before .to .given .1) at (c .before .before .before .before .before .command .ensures)) .walks), search needs)))
+    loop-less
+    loop-again)

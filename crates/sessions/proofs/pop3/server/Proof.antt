@@ -18,6 +18,34 @@ Inv-loop s table₀ p₀ n₀ table p n = Walks s table₀ n₀ 0 (then [] statu
 abbrev μ-loop : tie.MeasureT-loop
 μ-loop s table₀ p₀ n₀ table p n = length s - p
 
+-- what `status` requires, in the loop
+status-requires : tie.Need-status-requires Inv-loop μ-loop
+status-requires c _ = (c .before .before .before .before .pre, c .before .loop .inv .0 .moved .1)
+
+-- a way out, in the loop behind status Stopped(a)
+returns : tie.Need-returns Inv-loop μ-loop
+returns c =
+    let after-status = c .before .before .before .before .before in
+    let status-ensures = after-status .status .ensures in
+    let loop-inv = after-status .before .before .loop .inv in
+    walked {to = λ q. reads status} (loop-inv .0) ((rw (c .before .a .given .1) at status-ensures) .walks) .is
+
+-- the measure falls, behind status Went(to, next)
+loop-less : tie.Need-loop-less Inv-loop μ-loop
+loop-less c =
+    let to-is = c .before .to .given .1 in
+    let status-ensures = c .before .before .before .before .before .status .ensures in
+    let status-told = rw to-is at status-ensures in
+    omega (arith, status-told .farther, status-told .walks .moved .1)
+
+-- the invariant holds after a turn, behind status Went(to, next)
+loop-again : tie.Need-loop-again Inv-loop μ-loop
+loop-again c =
+    let after-status = c .before .before .before .before .before in
+    let status-ensures = after-status .status .ensures in
+    let loop-inv = after-status .before .before .loop .inv in
+    (walked (loop-inv .0) ((rw (c .before .to .given .1) at status-ensures) .walks), search needs)
+
 pub server-spec : {M : Type 1} → statement M
 server-spec =
     tie.close
@@ -25,10 +53,10 @@ server-spec =
     Inv-loop
     μ-loop
     (λ c. (here 0 (omega arith), refl))
-    (λ c _. (c .before .before .before .before .pre, c .before .loop .inv .0 .moved .1))
+    status-requires
     (λ c. search needs)
     (λ c. search needs)
-    (λ c. walked {to = λ q. reads status} (c .before .before .before .before .before .before .before .loop .inv .0) ((rw (c .before .a .given .1) at (c .before .before .before .before .before .status .ensures)) .walks) .is)
+    returns
     (λ c. search needs)
-    (λ c. omega (arith, (rw (c .before .to .given .1) at (c .before .before .before .before .before .status .ensures)) .farther, (rw (c .before .to .given .1) at (c .before .before .before .before .before .status .ensures)) .walks .moved .1))
-    (λ c. (walked (c .before .before .before .before .before .before .before .loop .inv .0) ((rw (c .before .to .given .1) at (c .before .before .before .before .before .status .ensures)) .walks), search needs)))
+    loop-less
+    loop-again)

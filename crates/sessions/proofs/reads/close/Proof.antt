@@ -5,6 +5,18 @@ use Rattle.sessions.proofs.Steps.{here, note-stop, note}
 use Rattle.sessions.proofs.reads.close.Statement.{statement}
 use Rattle.sessions.proofs.reads.close.Tie as tie
 
+-- a way out, behind note Stopped(a)
+returns : tie.Need-returns
+returns c =
+    let note-ensures = c .before .before .before .before .before .note .ensures in
+    λ s st h. note-stop [] (st _) (rw (c .before .a .given .1) at note-ensures)
+
+-- a way out, behind note Written(next)
+returns-2 : tie.Need-returns-2
+returns-2 c =
+    let note-ensures = c .before .before .before .before .before .note .ensures in
+    λ s st h. note [] (st _) (rw (c .before .next .given .1) at note-ensures) (here _ h)
+
 pub close-spec : {M : Type 1} → statement M
 close-spec =
     tie.close
@@ -13,6 +25,6 @@ close-spec =
     (λ c. search needs)
     (λ c. search needs)
     (λ c. search needs)
-    (λ c. λ s st h. note-stop [] (st _) (rw (c .before .a .given .1) at (c .before .before .before .before .before .note .ensures)))
+    returns
     (λ c. search needs)
-    (λ c. λ s st h. note [] (st _) (rw (c .before .next .given .1) at (c .before .before .before .before .before .note .ensures)) (here _ h)))
+    returns-2)

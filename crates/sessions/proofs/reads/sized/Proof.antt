@@ -4,11 +4,19 @@ use Rattle.sessions.proofs.Readings.{sized-ends, sized-stops}
 use Rattle.sessions.proofs.reads.sized.Statement.{statement}
 use Rattle.sessions.proofs.reads.sized.Tie as tie
 
+-- a way out, behind if1
+returns : tie.Need-returns
+returns c = sized-ends _ _ _ (c .before .pre .0) (c .before .pre .1) (c .if1 .taken)
+
+-- a way out, behind if1
+returns-2 : tie.Need-returns-2
+returns-2 c = sized-stops _ _ _ (c .before .pre .1) (c .if1 .left)
+
 pub sized-spec : {M : Type 1} → statement M
 sized-spec =
     tie.close
     (tie.spec
     (λ c. search needs)
     (λ c. search needs)
-    (λ c. sized-ends _ _ _ (c .before .pre .0) (c .before .pre .1) (c .if1 .taken))
-    (λ c. sized-stops _ _ _ (c .before .pre .1) (c .if1 .left)))
+    returns
+    returns-2)
