@@ -25,15 +25,16 @@ abbrev guessNo : Guessed → List ℕ
 guessNo (Number n) = n ∷ []
 guessNo Broken = []
 
-abbrev head : List ℕ → Head
-head b = headOf b
+-- letter S, one slot, two bytes
+abbrev head : Head
+head = headOf (83 ∷ 1 ∷ 0 ∷ 0 ∷ 0 ∷ 2 ∷ 0 ∷ 0 ∷ 0 ∷ [])
 
 abbrev rows : List Row
 rows =
     -- four: the greatest first; one number too few
     (four (1 ∷ 2 ∷ 0 ∷ 0 ∷ []) 0 ∷ [] is-neither 16908288 ∷ [] nor 258 ∷ []) ∷
     -- head_of: slots and length changed over; a slot for each byte
-    (head (83 ∷ 1 ∷ 0 ∷ 0 ∷ 0 ∷ 2 ∷ 0 ∷ 0 ∷ 0 ∷ []) .slots ∷ head (83 ∷ 1 ∷ 0 ∷ 0 ∷ 0 ∷ 2 ∷ 0 ∷ 0 ∷ 0 ∷ []) .length ∷ [] is-neither 2 ∷ 1 ∷ [] nor 2 ∷ 2 ∷ []) ∷
+    (head .slots ∷ head .length ∷ [] is-neither 2 ∷ 1 ∷ [] nor 2 ∷ 2 ∷ []) ∷
     -- guess: broken both times; a guess from too few bytes
     (guessNo (guessOf (9 ∷ [])) ++ guessNo (guessOf (9 ∷ replicate 12 0)) is-neither [] nor 0 ∷ 3 ∷ []) ∷
     -- fill: one number too few; zeros

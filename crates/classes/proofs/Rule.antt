@@ -24,7 +24,12 @@ agreed false false t = refl
 -- the entry x is the set of byte k's marks
 unfoldable pub right : ℕ → ℕ → Bool
 right k x =
-    agree (has 0 x) (isWhite k) && (agree (has 1 x) (isBlank k) && (agree (has 2 x) (isPopWhite k) && (agree (has 3 x) (isDigit k) && (agree (has 4 x) (isLetter k) && agree (has 5 x) (isUpper k)))))
+    agree (has 0 x) (isWhite k)
+    && (agree (has 1 x) (isBlank k)
+    && (agree (has 2 x) (isPopWhite k)
+    && (agree (has 3 x) (isDigit k)
+    && (agree (has 4 x) (isLetter k)
+    && agree (has 5 x) (isUpper k)))))
 
 marked : (k x : ℕ) → T (right k x) → Marked k x
 unfolding right

@@ -15,7 +15,8 @@ use Rattle.reading.proofs.Words.{starts-long}
 use Rattle.reading.specs.Bytes.{startsWith, firstPlace, holds, stands}
 use Rattle.reading.specs.declared.Place.{Place}
 use Rattle.reading.specs.declared.Place.the-variants.{At, Nowhere}
-use Rattle.fields.specs.Common.{typeField, bareName, quotedName, tab, closed, quoted, unquoted, typed, named, bareParameter, parameter, contentType, contentTypeExt, bytesOf, firstEncoding, byType, byExt, byBoundary, scanned, knownOf, part, Inside, Says}
+use Rattle.fields.specs.Common.{typeField, bareName, quotedName, tab, closed, quoted, unquoted, typed, named, bareParameter, parameter, contentType, contentTypeExt}
+use Rattle.fields.specs.Common.{bytesOf, firstEncoding, byType, byExt, byBoundary, scanned, knownOf, part, Inside, Says}
 use Rattle.fields.specs.declared.common.Bdry.{Bdry}
 use Rattle.fields.specs.declared.common.Bdry.the-variants.{Unsupplied, Of}
 use Rattle.fields.specs.declared.common.ContentType.{ContentType}
@@ -58,12 +59,14 @@ typed-inside l Unsupplied h = tt
 
 bare-inside : (l : List ℕ) (q : Place) → named bareName l ≡ q → InsideType l (bareParameter l q)
 unfolding bareParameter named
-bare-inside l (At p) e = typed-inside l (unquoted l (length typeField + p + length bareName)) (unquoted-inside l (length typeField + p + length bareName) (word-room bareName l (length typeField) p e))
+bare-inside l (At p) e = typed-inside l (unquoted l (length typeField + p + length bareName))
+    (unquoted-inside l (length typeField + p + length bareName) (word-room bareName l (length typeField) p e))
 bare-inside l Nowhere e = tt
 
 parameter-inside : (l : List ℕ) (q : Place) → named quotedName l ≡ q → InsideType l (parameter l q)
 unfolding parameter named
-parameter-inside l (At p) e = typed-inside l (quoted l (length typeField + p + length quotedName)) (quoted-inside l (length typeField + p + length quotedName) (word-room quotedName l (length typeField) p e))
+parameter-inside l (At p) e = typed-inside l (quoted l (length typeField + p + length quotedName))
+    (quoted-inside l (length typeField + p + length quotedName) (word-room quotedName l (length typeField) p e))
 parameter-inside l Nowhere e = bare-inside l (named bareName l) refl
 
 type-if : (l : List ℕ) (t : Bool) (c : ContentType) → InsideType l c → InsideType l (cond t c Other)
@@ -101,33 +104,39 @@ module _ (h : List ℕ) (at end o n : ℕ) (a : at ≤ end) (g : end ≤ length 
 
 -- ---- the header scan's step, case by case
 module _ (h : List ℕ) (at end : ℕ) (e : Encoding) (s : Bool) (a : at ≤ end) (g : end ≤ length h) where
-  pub says-other : contentType (part h at end) ≡ Other → Says h (byType e s (part h at end) (contentType (part h at end))) (record { encoding = e; seen = s; boundary = Unsupplied })
+  pub says-other : contentType (part h at end) ≡ Other → Says h (byType e s (part h at end) (contentType (part h at end)))
+      (record { encoding = e; seen = s; boundary = Unsupplied })
   unfolding byType
   says-other t = record { is = rw t; inside = tt }
 
-  pub says-plain : contentType (part h at end) ≡ Plain → Says h (byType e s (part h at end) (contentType (part h at end))) (record { encoding = e; seen = true; boundary = Unsupplied })
+  pub says-plain : contentType (part h at end) ≡ Plain → Says h (byType e s (part h at end) (contentType (part h at end)))
+      (record { encoding = e; seen = true; boundary = Unsupplied })
   unfolding byType
   says-plain t = record { is = rw t; inside = tt }
 
-  pub says-bounded : (o n : ℕ) → contentType (part h at end) ≡ Bounded o n → Says h (byType e s (part h at end) (contentType (part h at end))) (record { encoding = e; seen = true; boundary = Of (at + o) n })
+  pub says-bounded : (o n : ℕ) → contentType (part h at end) ≡ Bounded o n
+      → Says h (byType e s (part h at end) (contentType (part h at end))) (record { encoding = e; seen = true; boundary = Of (at + o) n })
   unfolding byType
   says-bounded o n t =
       let r = bounded-room h at end o n a g t in
       record { is = rw (t, part-bytes h at end o n r); inside = omega arith }
 
 module _ (h : List ℕ) (at end : ℕ) (e : Encoding) (a : at ≤ end) (g : end ≤ length h) where
-  pub says-ext : (o n : ℕ) → contentTypeExt (part h at end) ≡ Of o n → Says h (byBoundary e true none (part h at end)) (record { encoding = e; seen = true; boundary = Of (at + o) n })
+  pub says-ext : (o n : ℕ) → contentTypeExt (part h at end) ≡ Of o n
+      → Says h (byBoundary e true none (part h at end)) (record { encoding = e; seen = true; boundary = Of (at + o) n })
   unfolding byBoundary byExt
   says-ext o n t =
       let r = ext-room h at end o n a g t in
       record { is = rw (t, part-bytes h at end o n r); inside = omega arith }
 
-  pub says-no-ext : (r : Scan) → contentTypeExt (part h at end) ≡ Unsupplied → Says h (byType e true (part h at end) (contentType (part h at end))) r → Says h (byBoundary e true none (part h at end)) r
+  pub says-no-ext : (r : Scan) → contentTypeExt (part h at end) ≡ Unsupplied → Says h (byType e true (part h at end) (contentType (part h at end))) r
+      → Says h (byBoundary e true none (part h at end)) r
   unfolding byBoundary byExt
   says-no-ext r t w = record { is = w .is ∙ rw t; inside = w .inside }
 
 module _ (h : List ℕ) (at end : ℕ) (k : Scan) (e : Encoding) (f : e ≡ firstEncoding (k .encoding) (part h at end)) where
-  pub scan-had : (o n : ℕ) → k .boundary ≡ Of o n → Inside h (k .boundary) → Says h (scanned (knownOf h k) (part h at end)) (record { encoding = e; seen = k .seen; boundary = Of o n })
+  pub scan-had : (o n : ℕ) → k .boundary ≡ Of o n → Inside h (k .boundary)
+      → Says h (scanned (knownOf h k) (part h at end)) (record { encoding = e; seen = k .seen; boundary = Of o n })
   unfolding scanned byBoundary
   scan-had o n b i = record { is = rw (b, ← f); inside = rw b at i }
 

@@ -10,7 +10,8 @@ use Rattle.events.specs.declared.Encoding.the-variants.{Unsaid, Bit7, Bit8, Quo
 use Rattle.reading.specs.Text.{text}
 use Rattle.reading.specs.Bytes.{startsWith, same, endsWith, raised, first, firstPlace, holds, stands}
 use Rattle.fields.specs.Runs.{runs, lead}
-use Rattle.fields.specs.Common.{encodingNamed, behindSpaces, transferEncoding, closed, quoted, unquoted, typed, named, bareParameter, parameter, contentType, contentTypeExt, Known, unknown, firstEncoding, byType, byExt, byBoundary, scanned, dashBdry}
+use Rattle.fields.specs.Common.{encodingNamed, behindSpaces, transferEncoding, closed, quoted, unquoted, typed, named, bareParameter, parameter, contentType}
+use Rattle.fields.specs.Common.{contentTypeExt, Known, unknown, firstEncoding, byType, byExt, byBoundary, scanned, dashBdry}
 use Rattle.fields.specs.Smtp.{startsWithHelo, isMailFrom, secondLine, isData, upToEnd, closing, mailFrom, required, rcptTo}
 use Rattle.fields.specs.declared.common.Bdry.the-variants.{Unsupplied, Of}
 use Rattle.fields.specs.declared.common.ContentType.the-variants.{Other, Plain, Bounded}
@@ -69,7 +70,8 @@ pub scans :
     ∷ after unknown (text "Content-Type: a\r\n" ∷ text "\tboundary=\"p\r\n" ∷ text "Content-Type: boundary=q\r\n" ∷ []) .boundary
     ∷ []
     ≡ some (text "q") ∷ none ∷ none ∷ some (text "p") ∷ some (text "q") ∷ []
-unfolding after scanned firstEncoding byBoundary byExt byType transferEncoding contentType parameter bareParameter named typed contentTypeExt quoted closed unquoted first firstPlace holds stands startsWith lead runs raised upperOf isLetter isUpper
+unfolding after scanned firstEncoding byBoundary byExt byType transferEncoding contentType parameter bareParameter named typed contentTypeExt quoted closed unquoted
+    first firstPlace holds stands startsWith lead runs raised upperOf isLetter isUpper
 scans = refl
 
 pub first-encoding-wins :

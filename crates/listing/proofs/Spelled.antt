@@ -40,7 +40,8 @@ spells (suc (suc j)) (suc most) n h w =
 spelled-length : (most n : ℕ) → length (spelled most n) ≤ most
 unfolding spelled
 spelled-length zero n = omega arith
-spelled-length (suc most) n = by-test (ltb n 10) (λ t. rw t (omega arith)) (λ f. rw f (omega (arith, length-append (spelled most (n / 10)) ((48 + n % 10) ∷ []), spelled-length most (n / 10))))
+spelled-length (suc most) n = by-test (ltb n 10) (λ t. rw t (omega arith))
+    (λ f. rw f (omega (arith, length-append (spelled most (n / 10)) ((48 + n % 10) ∷ []), spelled-length most (n / 10))))
 
 pub word-length : (n behind : ℕ) → length (word n behind) ≤ 21
 unfolding word

@@ -21,7 +21,14 @@ cut-if need s p r k short e h f = refl
 cut-if need s p r k (got q x) e h f =
     let a : fetch need s ≡ got q (x ++ drop k s) = ap (fetch need) (sym (take-append-drop k s)) ∙ got-holds need (take k s) q x f (drop k s) in
     let b : p ≡ q = let c = sym e ∙ a in cc in
-    absurd (omega (arith, ap length b, got-length need (take k s) q x f, ap length (got-reach need (take k s) q x f .2), length-take (got-reach need (take k s) q x f .0) (take k s), length-take k s))
+    absurd (omega (
+      arith,
+      ap length b,
+      got-length need (take k s) q x f,
+      ap length (got-reach need (take k s) q x f .2),
+      length-take (got-reach need (take k s) q x f .0) (take k s),
+      length-take k s,
+    ))
 
 pub got-cut : (need : Need) (s p r : List ℕ) (k : ℕ) → fetch need s ≡ got p r → k < length p → fetch need (take k s) ≡ short
 got-cut need s p r k e h = cut-if need s p r k (fetch need (take k s)) e h refl

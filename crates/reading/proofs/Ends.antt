@@ -142,7 +142,9 @@ unfolding mayStand
 may-stand-later s p n = rw (ne-eqb p 0 n)
 
 pub may-stand-second : (s : List ℕ) (p : ℕ) → p < length s → p ≡ 1 → mayStand s p ≡ false
-may-stand-second s p h e = may-stand-later s p (λ z. omega arith) ∙ sym (ends-short (13 ∷ 10 ∷ []) (take p s) (omega (arith, length-take-le p s (let g : p ≤ length s = omega arith in g))))
+may-stand-second s p h e =
+    let g : p ≤ length s = omega arith in
+    may-stand-later s p (λ z. omega arith) ∙ sym (ends-short (13 ∷ 10 ∷ []) (take p s) (omega (arith, length-take-le p s g)))
 
 swap : (a b c : Bool) → (a && (b && c)) ≡ ((b && a) && c)
 swap true b c = ap (λ (x : Bool). x && c) (sym (and-true b))

@@ -69,7 +69,9 @@ starts-last w l h =
     (λ t. rw t)
     (λ f.
     let n = eqb-false (length w) 0 f in
-    let e : getD l (length w - 1) 0 ≡ getD w (length w - 1) 0 = ap (λ (m : List ℕ). getD m (length w - 1) 0) (starts-is w l h) ∙ List·getD-append w (drop (length w) l) 0 (length w - 1) (omega (arith, n)) in
+    let e : getD l (length w - 1) 0 ≡ getD w (length w - 1) 0 =
+    ap (λ (m : List ℕ). getD m (length w - 1) 0) (starts-is w l h)
+    ∙ List·getD-append w (drop (length w) l) 0 (length w - 1) (omega (arith, n)) in
     rw (f, le-leb (length w) (length l) (starts-long w l h), eq-eqb (getD l (length w - 1) 0) (getD w (length w - 1) 0) e))
 
 starts-not : (w l : List ℕ) → lastStands w l ≡ false → startsWith w l ≡ false

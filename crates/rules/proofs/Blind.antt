@@ -32,7 +32,8 @@ use Rattle.reading.specs.Text.{text}
 use Rattle.reading.specs.Reading.{aLine, bytes, got, fetch, reach, parted, clean, crlf}
 use Rattle.rules.specs.Imap.{onCommand, onOffered, onClosing}
 use Rattle.rules.specs.Machine.{Reaction}
-use Rattle.rules.specs.Mail.{dotLine, hyphens, levels, rest, literalBody, plainMail, boundaryFree, begun, onHead, onText, onLiteral, onPreamble, onOpened, held, whole, contentLength, onContent, skip, onBetween, onSkipping, onResting}
+use Rattle.rules.specs.Mail.{dotLine, hyphens, levels, rest, literalBody, plainMail, boundaryFree, begun, onHead, onText, onLiteral, onPreamble, onOpened, held}
+use Rattle.rules.specs.Mail.{whole, contentLength, onContent, skip, onBetween, onSkipping, onResting}
 use Rattle.rules.specs.Phases.{Phase, State, reads, ends, wants, need, then, stop}
 use Rattle.rules.specs.Phases
 use Rattle.rules.specs.Pop3.{onStatus}
@@ -87,7 +88,8 @@ still-mail : (m : Mail) (e : Encoding) (to : ℕ) → still (plainMail m e to .e
 unfolding plainMail still secret
 still-mail Smtp e to = refl
 still-mail Pop3 e to = refl
-still-mail (Imap size start) e to = either (ltb size (to - start)) (stop [] SmallLiteral to) (literalBody e to (rest (Imap size start) to)) refl (still-literal e to (rest (Imap size start) to))
+still-mail (Imap size start) e to = either (ltb size (to - start)) (stop [] SmallLiteral to) (literalBody e to (rest (Imap size start) to)) refl
+    (still-literal e to (rest (Imap size start) to))
 
 still-plain : (m : Mail) (e : Encoding) (os : List (List ℕ)) (to : ℕ) → still (boundaryFree m e os to .events) ≡ true
 unfolding boundaryFree still secret
@@ -102,7 +104,8 @@ still-begun m e (some b) os to = either (leb levels (length os)) (stop [] TooDee
 still-head : (m : Mail) (k : Known) (os : List (List ℕ)) (at : ℕ) (l : List ℕ) → still (onHead m k os at l .events) ≡ true
 unfolding onHead still secret
 still-head m k os at l =
-    either (same crlf l) (begun m (k .encoding) (k .boundary) os (at + length l)) (then [] (Phases.head m (scanned k l) os)) (still-begun m (k .encoding) (k .boundary) os (at + length l)) refl
+    either (same crlf l) (begun m (k .encoding) (k .boundary) os (at + length l)) (then [] (Phases.head m (scanned k l) os))
+    (still-begun m (k .encoding) (k .boundary) os (at + length l)) refl
 
 still-command : (at : ℕ) (l : List ℕ) → still (onCommand at l .events) ≡ true
 unfolding onCommand still secret
@@ -219,27 +222,37 @@ literal-blind e n at p g = record {
 }
 
 blinds : (ph : Phase) (at : ℕ) (l : List ℕ) → fetch (wants ph) l ≡ got l [] → Blind (reads ph) at l
-unfolding still secret react reacts need wants onHello onSecond onUser onPassword onSender onSeeking onRecipient onReply onStatus onOffered onClosing onPreamble onOpened onContent onBetween onSkipping onResting
+unfolding still secret react reacts need wants onHello onSecond onUser onPassword onSender onSeeking onRecipient onReply onStatus onOffered onClosing onPreamble onOpened
+    onContent onBetween onSkipping onResting
 blinds Phases.hello at l g = still-blind (reads Phases.hello) at l g (either (startsWithHelo l) (then [] Phases.second) (stop [] NoHello 0) refl refl)
 blinds Phases.second at l g = still-blind (reads Phases.second) at l g (still-second (secondLine (clean l)) at (clean l))
-blinds Phases.user at l g = line-blind Phases.user user (length (clean l)) at Unsaid l refl refl (clean-within l) g refl (λ q w. ap (λ (n : ℕ). then (ev user at n Unsaid ∷ []) Phases.password) (clean-kept w))
-blinds Phases.password at l g = line-blind Phases.password password (length (clean l)) at Unsaid l refl refl (clean-within l) g refl (λ q w. ap (λ (n : ℕ). then (ev password at n Unsaid ∷ []) Phases.sender) (clean-kept w))
+blinds Phases.user at l g = line-blind Phases.user user (length (clean l)) at Unsaid l refl refl (clean-within l) g refl
+    (λ q w. ap (λ (n : ℕ). then (ev user at n Unsaid ∷ []) Phases.password) (clean-kept w))
+blinds Phases.password at l g = line-blind Phases.password password (length (clean l)) at Unsaid l refl refl (clean-within l) g refl
+    (λ q w. ap (λ (n : ℕ). then (ev password at n Unsaid ∷ []) Phases.sender) (clean-kept w))
 blinds Phases.sender at l g = still-blind (reads Phases.sender) at l g (still-given at (mailFrom (clean l)))
-blinds Phases.seeking at l g = still-blind (reads Phases.seeking) at l g (either (isMailFrom (clean l)) (tried at (clean l)) (then [] Phases.seeking) (still-given at (mailFrom (clean l))) refl)
-blinds Phases.recipient at l g = still-blind (reads Phases.recipient) at l g (either (isData (clean l)) (then [] (Phases.head Smtp unknown [])) (byRecipient at (rcptTo (clean l))) refl (still-recipient at (rcptTo (clean l))))
+blinds Phases.seeking at l g = still-blind (reads Phases.seeking) at l g
+    (either (isMailFrom (clean l)) (tried at (clean l)) (then [] Phases.seeking) (still-given at (mailFrom (clean l))) refl)
+blinds Phases.recipient at l g = still-blind (reads Phases.recipient) at l g
+    (either (isData (clean l)) (then [] (Phases.head Smtp unknown [])) (byRecipient at (rcptTo (clean l))) refl (still-recipient at (rcptTo (clean l))))
 blinds Phases.reply at l g = still-blind (reads Phases.reply) at l g (either (startsWith (text "221") (clean l)) (stop [] Done (at + length l)) (then [] Phases.reply) refl refl)
-blinds Phases.status at l g = still-blind (reads Phases.status) at l g (either (stlsAnswer (clean l)) (stop [] Done (at + length l)) (cond (retrAnswer (clean l)) (then [] (Phases.head Pop3 unknown [])) (then [] Phases.status)) refl
+blinds Phases.status at l g = still-blind (reads Phases.status) at l g
+    (either (stlsAnswer (clean l)) (stop [] Done (at + length l)) (cond (retrAnswer (clean l)) (then [] (Phases.head Pop3 unknown [])) (then [] Phases.status)) refl
     (either (retrAnswer (clean l)) (then [] (Phases.head Pop3 unknown [])) (then [] Phases.status) refl refl))
 blinds Phases.command at l g = still-blind (reads Phases.command) at l g (still-command at l)
-blinds (Phases.offered size) at l g = still-blind (reads (Phases.offered size)) at l g (either (holdsColon l) (onHead (Imap size at) unknown [] at l) (onCommand at l) (still-head (Imap size at) unknown [] at l) (still-command at l))
+blinds (Phases.offered size) at l g = still-blind (reads (Phases.offered size)) at l g
+    (either (holdsColon l) (onHead (Imap size at) unknown [] at l) (onCommand at l) (still-head (Imap size at) unknown [] at l) (still-command at l))
 blinds Phases.closing at l g = still-blind (reads Phases.closing) at l g (either (same crlf l) (then [] Phases.command) (stop [] OpenLiteral at) refl refl)
 blinds (Phases.head m k os) at l g = still-blind (reads (Phases.head m k os)) at l g (still-head m k os at l)
 blinds (Phases.text m e) at l g = text-blind m e at l g
 blinds (Phases.literal e n) at l g = literal-blind e n at l g
 blinds (Phases.preamble m b os) at l g = still-blind (reads (Phases.preamble m b os)) at l g refl
-blinds (Phases.opened m b os) at l g = still-blind (reads (Phases.opened m b os)) at l g (either (same crlf l) (then [] (Phases.head m unknown (b ∷ os))) (stop [] BadDelimiter at) refl refl)
+blinds (Phases.opened m b os) at l g = still-blind (reads (Phases.opened m b os)) at l g
+    (either (same crlf l) (then [] (Phases.head m unknown (b ∷ os))) (stop [] BadDelimiter at) refl refl)
 blinds (Phases.content m e b os) at l g = still-blind (reads (Phases.content m e b os)) at l g (still-content e at (contentLength b l))
-blinds (Phases.between m b os) at l g = still-blind (reads (Phases.between m b os)) at l g (either (same hyphens l) (record { events = []; next = skip m b os (at + length l) }) (cond (same crlf l) (then [] (Phases.head m unknown (b ∷ os))) (stop [] BadDelimiter at)) refl
+blinds (Phases.between m b os) at l g = still-blind (reads (Phases.between m b os)) at l g
+    (either (same hyphens l) (record { events = []; next = skip m b os (at + length l) })
+    (cond (same crlf l) (then [] (Phases.head m unknown (b ∷ os))) (stop [] BadDelimiter at)) refl
     (either (same crlf l) (then [] (Phases.head m unknown (b ∷ os))) (stop [] BadDelimiter at) refl refl))
 blinds (Phases.skipping m b os) at l g = still-blind (reads (Phases.skipping m b os)) at l g (refl)
 blinds (Phases.resting m b os n) at l g = still-blind (reads (Phases.resting m b os n)) at l g (refl)

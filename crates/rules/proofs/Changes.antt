@@ -102,7 +102,12 @@ module _ (es fs : List Event) (at hi : ℕ) (p r u : List ℕ) (w : Replaced (es
     long = length-drop (length p) u ∙ (let z : length u - length p ≡ length r = omega (arith, long) in z);
     bytes = λ i h.
         let z : at + length p + i ≡ at + (length p + i) = omega arith in
-        rw (z, getD-drop (length p) u i 0, ← (getD-append-add p r i 0), ← (may-right at (at + length p) es fs (at + (length p + i)) (getD (p ++ r) (length p + i) 0) (getD u (length p + i) 0) l (omega arith)))
+        rw (
+          z,
+          getD-drop (length p) u i 0,
+          ← (getD-append-add p r i 0),
+          ← (may-right at (at + length p) es fs (at + (length p + i)) (getD (p ++ r) (length p + i) 0) (getD u (length p + i) 0) l (omega arith)),
+        )
         (w .bytes (length p + i) (omega (arith, length-append p r)));
   }
 

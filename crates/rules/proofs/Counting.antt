@@ -33,7 +33,8 @@ use Rattle.reading.specs.declared.Place.{Place}
 use Rattle.reading.specs.declared.Place.the-variants.{At, Nowhere}
 use Rattle.rules.specs.Imap.{onCommand, onOffered, onClosing}
 use Rattle.rules.specs.Machine.{Reaction, Ran, turn, go, run}
-use Rattle.rules.specs.Mail.{dotLine, hyphens, levels, afterMail, rest, literalBody, plainMail, boundaryFree, begun, onHead, onText, held, whole, onLiteral, onPreamble, onOpened, contentLength, onContent, outermost, byRest, skip, onBetween, lastLine, popped, onSkipping, onResting}
+use Rattle.rules.specs.Mail.{dotLine, hyphens, levels, afterMail, rest, literalBody, plainMail, boundaryFree, begun, onHead, onText, held, whole, onLiteral}
+use Rattle.rules.specs.Mail.{onPreamble, onOpened, contentLength, onContent, outermost, byRest, skip, onBetween, lastLine, popped, onSkipping, onResting}
 use Rattle.rules.specs.Phases
 use Rattle.rules.specs.Phases.{Phase, State, reads, ends, wants, need, then, stop, ahead}
 use Rattle.rules.specs.Pop3.{onStatus}
@@ -224,7 +225,8 @@ command-pays {n} at l g h =
 
 -- ---- every phase
 phase-pays : {n : ℕ} (ph : Phase) (at : ℕ) (p : List ℕ) → fetch (wants ph) p ≡ got p [] → 0 < length p → length p + phaseCredit ph ≤ n → Pays n (reacts ph at p)
-unfolding wants reacts phaseCredit mailCredit isTen onHello onSecond onUser onPassword onSender onSeeking onRecipient onOffered onClosing onText onLiteral onPreamble onOpened onContent onBetween onSkipping onResting skip
+unfolding wants reacts phaseCredit mailCredit isTen onHello onSecond onUser onPassword onSender onSeeking onRecipient onOffered onClosing onText onLiteral onPreamble
+    onOpened onContent onBetween onSkipping onResting skip
 phase-pays {n} Phases.hello at p g byte h = either (Pays n) (startsWithHelo p) (λ t. on (omega arith)) (over refl)
 phase-pays Phases.second at p g byte h = second-pays (omega arith) at (secondLine (clean p)) (clean p)
 phase-pays Phases.user at p g byte h = on (omega arith)

@@ -39,8 +39,15 @@ module _ (t : List ℕ) (n : ℕ) (e : Event) where
       let la : length a ≡ length t = length-set t i (e .kind) in
       let lb : length b ≡ length t = length-set a (i + 1) (e .offset) ∙ la in
       let lc : length c ≡ length t = length-set b (i + 2) (e .length) ∙ lb in
-      let k0 = getD-set-other c (i + 3) i (e .encoding) 0 (λ z. omega arith) ∙ getD-set-other b (i + 2) i (e .length) 0 (λ z. omega arith) ∙ getD-set-other a (i + 1) i (e .offset) 0 (λ z. omega arith) ∙ getD-set-same t i (e .kind) 0 (omega arith) in
-      let k1 = getD-set-other c (i + 3) (i + 1) (e .encoding) 0 (λ z. omega arith) ∙ getD-set-other b (i + 2) (i + 1) (e .length) 0 (λ z. omega arith) ∙ getD-set-same a (i + 1) (e .offset) 0 (omega arith) in
+      let k0 =
+      getD-set-other c (i + 3) i (e .encoding) 0 (λ z. omega arith)
+      ∙ getD-set-other b (i + 2) i (e .length) 0 (λ z. omega arith)
+      ∙ getD-set-other a (i + 1) i (e .offset) 0 (λ z. omega arith)
+      ∙ getD-set-same t i (e .kind) 0 (omega arith) in
+      let k1 =
+      getD-set-other c (i + 3) (i + 1) (e .encoding) 0 (λ z. omega arith)
+      ∙ getD-set-other b (i + 2) (i + 1) (e .length) 0 (λ z. omega arith)
+      ∙ getD-set-same a (i + 1) (e .offset) 0 (omega arith) in
       let k2 = getD-set-other c (i + 3) (i + 2) (e .encoding) 0 (λ z. omega arith) ∙ getD-set-same b (i + 2) (e .length) 0 (omega arith) in
       let k3 = getD-set-same c (i + 3) (e .encoding) 0 (omega arith) in
       rw (store-is t n e, k0, k1, k2, k3) refl

@@ -112,7 +112,10 @@ module _ (st : State) (at : ℕ) (s u : List ℕ) (k : ℕ) where
         → Alike (session (react st at p .next) (at + length p) (take (k - length p) v)) (session (react st at p .next) (at + length p) (take (k - length p) r))
         → Told
     told-on h i =
-        let a : take k u ≡ q ++ take (k - length p) v = ap (take k) (sym (take-append-drop (length p) u)) ∙ taken k q v (omega (arith, piece-changed .long)) ∙ rw (piece-changed .long) refl in
+        let a : take k u ≡ q ++ take (k - length p) v =
+        ap (take k) (sym (take-append-drop (length p) u))
+        ∙ taken k q v (omega (arith, piece-changed .long))
+        ∙ rw (piece-changed .long) refl in
         let b : take k s ≡ p ++ take (k - length p) r = ap (take k) (got-splits (need st) s p r f) ∙ taken k p r h in
         let c = run-got State need react st at (q ++ take (k - length p) v) q (take (k - length p) v) (read-again (take (k - length p) v)) in
         let d = run-got State need react st at (p ++ take (k - length p) r) p (take (k - length p) r) (got-alone (need st) s p r f (take (k - length p) r)) in
@@ -148,7 +151,8 @@ or-more false a b i h = i h
 may-more : (n : ℕ) (es : List Event) (p b c : ℕ) → may (take n es) p b c ≡ true → may es p b c ≡ true
 unfolding may
 may-more n [] p b c h = rw (take-nil n) at h
-may-more zero (e ∷ es) p b c h = or-more (inside e p && mayTurn (e .kind) b c) (eqb b c) (may es p b c) (λ g. may-more zero es p b c g) (or-same (inside e p && mayTurn (e .kind) b c) (eqb b c) h)
+may-more zero (e ∷ es) p b c h = or-more (inside e p && mayTurn (e .kind) b c) (eqb b c) (may es p b c) (λ g. may-more zero es p b c g)
+    (or-same (inside e p && mayTurn (e .kind) b c) (eqb b c) h)
 may-more (suc n) (e ∷ es) p b c h = or-more (inside e p && mayTurn (e .kind) b c) (may (take n es) p b c) (may es p b c) (λ g. may-more n es p b c g) h
 
 replaced-more : (n : ℕ) (es : List Event) (at : ℕ) (s u : List ℕ) → Replaced (take n es) at s u → Replaced es at s u
@@ -164,6 +168,7 @@ secrecy start t s u w =
     (λ l.
     let o = session (reads start) 0 s in
     let v : Replaced (eventsOf (settle t 0 o)) 0 s u = rw l at w in
-    let x : Replaced (o .events) 0 s u = replaced-more (settle t 0 o .count) (o .events) 0 s u (rw (poured-given (o .events) t (resultOf (o .state)) (placeOf (o .state) (o .at))) at v) in
+    let x : Replaced (o .events) 0 s u = replaced-more (settle t 0 o .count) (o .events) 0 s u
+    (rw (poured-given (o .events) t (resultOf (o .state)) (placeOf (o .state) (o .at))) at v) in
     let n : take (length s) u ≡ u = ap (λ (k : ℕ). take k u) (sym (w .long)) ∙ take-length u in
     rw (n, take-length s) at (beginnings start s u x (length s) t))

@@ -34,7 +34,8 @@ blank = record { encoding = Unsaid; seen = false; boundary = Unsupplied }
 pub record HeadAt (h t : List ℕ) (log : Log) (base : ℕ) (k : Scan) (p : ℕ) (n : Log) (u : List ℕ) : Type 0 where
   pub within : p ≤ length h
   pub inside : Inside h (k .boundary)
-  pub is : (m : Mail) (os : List (List ℕ)) → settle u (n .count) (session (reads (head m (knownOf h k) os)) (base + p) (drop p h)) ≡ settle t (log .count) (session (reads (head m unknown os)) base h)
+  pub is : (m : Mail) (os : List (List ℕ))
+      → settle u (n .count) (session (reads (head m (knownOf h k) os)) (base + p) (drop p h)) ≡ settle t (log .count) (session (reads (head m unknown os)) base h)
 
 pub head-start : (h t : List ℕ) (log : Log) (base : ℕ) → HeadAt h t log base blank 0 log t
 head-start h t log base = record { within = omega arith; inside = tt; is = λ m os. rw add-zero }
@@ -45,7 +46,8 @@ turned m k os to l b = cond b (begun m (k .encoding) (k .boundary) os to) (then 
 
 head-turn : (h : List ℕ) (base p e : ℕ) (b : Bool) (m : Mail) (k : Known) (os : List (List ℕ)) → Ends aLine h p e → same crlf (part h p e) ≡ b
     → session (reads (head m k os)) (base + p) (drop p h)
-    ≡ before (ev headerLine (base + p) (e - p) Unsaid ∷ turned m k os (base + e) (part h p e) b .events) (session (turned m k os (base + e) (part h p e) b .next) (base + e) (drop e h))
+    ≡ before (ev headerLine (base + p) (e - p) Unsaid ∷ turned m k os (base + e) (part h p e) b .events)
+    (session (turned m k os (base + e) (part h p e) b .next) (base + e) (drop e h))
 unfolding reacts onHead wants
 head-turn h base p e b m k os d q =
     let n : base + p + (e - p) ≡ base + e = omega (arith, d .on) in
@@ -64,7 +66,8 @@ module _ {h t : List ℕ} {log : Log} {base : ℕ} {k : Scan} {p : ℕ} {n : Log
     head-full c = record {
       moved = tt;
       is = λ m os.
-          c .is (turned m (knownOf h k) os (base + e) (part h p e) (same crlf (part h p e)) .events) (session (turned m (knownOf h k) os (base + e) (part h p e) (same crlf (part h p e)) .next) (base + e) (drop e h))
+          c .is (turned m (knownOf h k) os (base + e) (part h p e) (same crlf (part h p e)) .events)
+          (session (turned m (knownOf h k) os (base + e) (part h p e) (same crlf (part h p e)) .next) (base + e) (drop e h))
           ∙ ap (settle u (n .count)) (sym (head-turn h base p e (same crlf (part h p e)) m (knownOf h k) os d refl))
           ∙ w .is m os;
     }
@@ -74,7 +77,8 @@ module _ {h t : List ℕ} {log : Log} {base : ℕ} {k : Scan} {p : ℕ} {n : Log
       head-blank q = record {
         moved = (omega (arith, d .on), d .within, w .inside);
         is = λ m os.
-            c .is (begun m (k .encoding) (bdryBytes h (k .boundary)) os (base + e) .events) (session (begun m (k .encoding) (bdryBytes h (k .boundary)) os (base + e) .next) (base + e) (drop e h))
+            c .is (begun m (k .encoding) (bdryBytes h (k .boundary)) os (base + e) .events)
+            (session (begun m (k .encoding) (bdryBytes h (k .boundary)) os (base + e) .next) (base + e) (drop e h))
             ∙ ap (settle u (n .count)) (sym (head-turn h base p e true m (knownOf h k) os d q))
             ∙ w .is m os;
       }

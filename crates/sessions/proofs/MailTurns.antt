@@ -17,7 +17,8 @@ use Rattle.fields.specs.Common.{part, unknown, dashBdry}
 use Rattle.reading.specs.Bytes.{startsWith, same}
 use Rattle.reading.specs.Reading.{Need, crlf}
 use Rattle.rules.specs.Machine.{Reaction}
-use Rattle.rules.specs.Mail.{dotLine, hyphens, afterMail, rest, literalBody, held, whole, contentLength, outermost, byRest, skip, lastLine, popped, onText, onLiteral, onOpened, onContent, onBetween, onSkipping, onResting}
+use Rattle.rules.specs.Mail.{dotLine, hyphens, afterMail, rest, literalBody, held, whole, contentLength, outermost, byRest, skip, lastLine, popped, onText, onLiteral}
+use Rattle.rules.specs.Mail.{onOpened, onContent, onBetween, onSkipping, onResting}
 use Rattle.rules.specs.Phases.{Phase, State, reads, wants, then, stop, closing, head, text, literal, opened, content, between, skipping, resting}
 use Rattle.rules.specs.Sessions.{reacts}
 use Rattle.sessions.specs.Walks.{Ends, Stopped, Pair, NoPair, Notes, goes, Walks, piece, Lies, Begun}
@@ -40,7 +41,8 @@ module _ {nd : Need} {s : List ℕ} {at e : ℕ} (d : Ends nd s at e) where
   behind = omega (arith, d .long, d .on)
 
   -- ---- lines of a mail with no boundary
-  pub text-dot : (m : Mail) (c : Encoding) → same dotLine (part s at e) ≡ true → reacts (text m c) at (part s at e) ≡ record { events = ev bodyStop at 0 Unsaid ∷ []; next = afterMail m e }
+  pub text-dot : (m : Mail) (c : Encoding) → same dotLine (part s at e) ≡ true
+      → reacts (text m c) at (part s at e) ≡ record { events = ev bodyStop at 0 Unsaid ∷ []; next = afterMail m e }
   unfolding reacts onText
   text-dot m c h = rw (h, behind)
 
@@ -54,16 +56,19 @@ module _ {nd : Need} {s : List ℕ} {at e : ℕ} (d : Ends nd s at e) where
   literal-all c n = rw (d .long)
 
   -- ---- a content
-  pub content-all : (m : Mail) (c : Encoding) (b : List ℕ) (os : List (List ℕ)) (n : ℕ) → n ≡ e - at - (length b + 4) → reacts (content m c b os) at (part s at e) ≡ then (whole partBody c at n) (between m b os)
+  pub content-all : (m : Mail) (c : Encoding) (b : List ℕ) (os : List (List ℕ)) (n : ℕ) → n ≡ e - at - (length b + 4)
+      → reacts (content m c b os) at (part s at e) ≡ then (whole partBody c at n) (between m b os)
   unfolding reacts onContent contentLength
   content-all m c b os n h = rw (d .long, ← h)
 
   -- ---- lines behind a close
-  pub skipping-last : (m : Mail) (b : List ℕ) (os : List (List ℕ)) → lastLine m (outermost b os) (part s at e) ≡ true → reacts (skipping m b os) at (part s at e) ≡ goes (popped m os e)
+  pub skipping-last : (m : Mail) (b : List ℕ) (os : List (List ℕ)) → lastLine m (outermost b os) (part s at e) ≡ true
+      → reacts (skipping m b os) at (part s at e) ≡ goes (popped m os e)
   unfolding reacts onSkipping
   skipping-last m b os h = rw (h, behind)
 
-  pub skipping-on : (m : Mail) (b : List ℕ) (os : List (List ℕ)) → lastLine m (outermost b os) (part s at e) ≡ false → reacts (skipping m b os) at (part s at e) ≡ goes (skip m b os e)
+  pub skipping-on : (m : Mail) (b : List ℕ) (os : List (List ℕ)) → lastLine m (outermost b os) (part s at e) ≡ false
+      → reacts (skipping m b os) at (part s at e) ≡ goes (skip m b os e)
   unfolding reacts onSkipping
   skipping-on m b os h = rw (h, behind)
 
@@ -146,7 +151,8 @@ module _ (m : Mail) (b : List ℕ) (os : List (List ℕ)) (at : ℕ) where
   skip-line h = line-if m b os (rest m at) h
 
 -- a literal's body begins with its start, whatever is left
-pub literal-full : {s t : List ℕ} {log : Log} {to : ℕ → State} {at : ℕ} {a : Answer} {u : List ℕ} (c : Encoding) (n : ℕ) → Notes t log (ev bodyStart at 0 Unsaid) (noted.Stopped a) u → Walks s t log at (literalBody c at n) to (walk.Stopped a) u
+pub literal-full : {s t : List ℕ} {log : Log} {to : ℕ → State} {at : ℕ} {a : Answer} {u : List ℕ} (c : Encoding) (n : ℕ)
+    → Notes t log (ev bodyStart at 0 Unsaid) (noted.Stopped a) u → Walks s t log at (literalBody c at n) to (walk.Stopped a) u
 unfolding literalBody
 literal-full {at = at} c zero p = steps.note-stop (ev bodyStop at 0 Unsaid ∷ []) (reads closing) p
 literal-full c (suc n) p = steps.note-stop [] (reads (literal c n)) p
@@ -159,7 +165,8 @@ last-dash Pop3 o l h = rw h
 last-dash (Imap size start) o l h = rw h
 
 -- ---- which read follows behind a close, as the code decides it
-module _ (s : List ℕ) (m : Mail) (b : List ℕ) (os : List (List ℕ)) (at : ℕ) (outer : Boundary) (n : ℕ) (e : n ≡ rest m at) (o : outermost b os ≡ piece s outer) (l : Lies s outer) where
+module _ (s : List ℕ) (m : Mail) (b : List ℕ) (os : List (List ℕ)) (at : ℕ) (outer : Boundary) (n : ℕ) (e : n ≡ rest m at) (o : outermost b os ≡ piece s outer)
+    (l : Lies s outer) where
   outer-long : length (outermost b os) ≡ outer .len
   outer-long = ap length o ∙ piece-length s outer l
 

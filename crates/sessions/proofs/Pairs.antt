@@ -35,4 +35,8 @@ module _ (s : List ℕ) (i : ℕ) {e : ℕ} (d : Ends two s i e) where
   pair-is {l} h = record { ends = two-ends; is = ap (part s i) (sym to-two) ∙ same-is l (part s i e) h }
 
   pub pair-not : same crlf (part s i e) ≡ false → same hyphens (part s i e) ≡ false → NoPair s i
-  pair-not h g = record { ends = two-ends; no-crlf = ap (λ (k : ℕ). same crlf (part s i k)) (sym to-two) ∙ h; no-hyphens = ap (λ (k : ℕ). same hyphens (part s i k)) (sym to-two) ∙ g }
+  pair-not h g = record {
+    ends = two-ends;
+    no-crlf = ap (λ (k : ℕ). same crlf (part s i k)) (sym to-two) ∙ h;
+    no-hyphens = ap (λ (k : ℕ). same hyphens (part s i k)) (sym to-two) ∙ g;
+  }

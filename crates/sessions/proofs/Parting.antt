@@ -34,13 +34,17 @@ use Rattle.sessions.proofs.Readings.{ended}
 use Rattle.sessions.proofs.Steps.{further}
 
 module _ {s t : List ℕ} {log : Log} {at : ℕ} {m : Mail} {b : List ℕ} {from : List (List ℕ) → Reaction State} {Fits : List (List ℕ) → Type 0} {u : List ℕ} where
-  pub parted-stop : {a : Answer} (to : List (List ℕ) → ℕ → State) → ((os : List (List ℕ)) → Fits os → Walks s t log at (from os) (to os) (walk.Stopped a) u) → Parts s t log at m b from Fits (parted.Stopped a) u
+  pub parted-stop : {a : Answer} (to : List (List ℕ) → ℕ → State) → ((os : List (List ℕ)) → Fits os → Walks s t log at (from os) (to os) (walk.Stopped a) u)
+      → Parts s t log at m b from Fits (parted.Stopped a) u
   parted-stop to w = record { moved = tt; is = λ os f. w os f .is }
 
-  pub parted-next : {p : ℕ} {n : Log} → at < p → p ≤ length s → ((os : List (List ℕ)) → Fits os → Walks s t log at (from os) (λ q. reads (head m unknown (b ∷ os))) (walk.Went p n) u) → Parts s t log at m b from Fits (parted.Next p n) u
+  pub parted-next : {p : ℕ} {n : Log} → at < p → p ≤ length s
+      → ((os : List (List ℕ)) → Fits os → Walks s t log at (from os) (λ q. reads (head m unknown (b ∷ os))) (walk.Went p n) u)
+      → Parts s t log at m b from Fits (parted.Next p n) u
   parted-next h g w = record { moved = (h, g); is = λ os f. w os f .is }
 
-  pub parted-closed : {p : ℕ} {n : Log} → at < p → p ≤ length s → ((os : List (List ℕ)) → Fits os → Walks s t log at (from os) (λ q. skip m b os q) (walk.Went p n) u) → Parts s t log at m b from Fits (parted.Closed p n) u
+  pub parted-closed : {p : ℕ} {n : Log} → at < p → p ≤ length s → ((os : List (List ℕ)) → Fits os → Walks s t log at (from os) (λ q. skip m b os q) (walk.Went p n) u)
+      → Parts s t log at m b from Fits (parted.Closed p n) u
   parted-closed h g w = record { moved = (h, g); is = λ os f. w os f .is }
 
 pub preamble-any : (m : Mail) (b : List ℕ) (os : List (List ℕ)) (at : ℕ) (l : List ℕ) → reacts (preamble m b os) at l ≡ then [] (opened m b os)
@@ -48,7 +52,8 @@ unfolding reacts onPreamble
 preamble-any m b os at l = refl
 
 -- ---- and back: what such an answer says as a walk
-module _ {s t : List ℕ} {log : Log} {at : ℕ} {m : Mail} {b : List ℕ} {from : List (List ℕ) → Reaction State} {Fits : List (List ℕ) → Type 0} {u : List ℕ} (os : List (List ℕ)) (f : Fits os) where
+module _ {s t : List ℕ} {log : Log} {at : ℕ} {m : Mail} {b : List ℕ} {from : List (List ℕ) → Reaction State} {Fits : List (List ℕ) → Type 0} {u : List ℕ}
+    (os : List (List ℕ)) (f : Fits os) where
   pub as-next : {p : ℕ} {n : Log} → Parts s t log at m b from Fits (parted.Next p n) u → Walks s t log at (from os) (λ q. reads (head m unknown (b ∷ os))) (walk.Went p n) u
   as-next w = record { moved = (omega (arith, w .moved .0), w .moved .1); is = w .is os f }
 
@@ -89,7 +94,8 @@ behind-left s v m b os (walk.Stopped a) = refl
 
 -- ---- a header that begins at `at`, and what follows it
 module _ (s : List ℕ) {t : List ℕ} {log : Log} {at : ℕ} {u : List ℕ} where
-  pub head-stopped : {a : Answer} {to : ℕ → State} → Headers (drop at s) t log at (headed.Stopped a) u → (m : Mail) (os : List (List ℕ)) → Walks s t log at (then [] (head m unknown os)) to (walk.Stopped a) u
+  pub head-stopped : {a : Answer} {to : ℕ → State} → Headers (drop at s) t log at (headed.Stopped a) u → (m : Mail) (os : List (List ℕ))
+      → Walks s t log at (then [] (head m unknown os)) to (walk.Stopped a) u
   head-stopped h m os = record { moved = tt; is = h .is m os }
 
   module _ {k : Scan} {e : ℕ} {n : Log} (h : Headers (drop at s) t log at (headed.Went k e n) u) where
@@ -110,13 +116,15 @@ module _ (s : List ℕ) {t : List ℕ} {log : Log} {at : ℕ} {u : List ℕ} whe
     none-is q = rw q
 
     -- no boundary, in a mail
-    pub head-plain : {to : ℕ → State} {r : Walk} {v : List ℕ} (m : Mail) → k .boundary ≡ Unsupplied → Walks s u n (at + e) (plainMail m (k .encoding) (at + e)) to r v → Walks s t log at (then [] (head m unknown [])) to r v
+    pub head-plain : {to : ℕ → State} {r : Walk} {v : List ℕ} (m : Mail) → k .boundary ≡ Unsupplied → Walks s u n (at + e) (plainMail m (k .encoding) (at + e)) to r v
+        → Walks s t log at (then [] (head m unknown [])) to r v
     unfolding begun boundaryFree
     head-plain {r = r} m q w = record { moved = further s at (at + e) r (omega arith) (w .moved); is = w .is ∙ head-is m [] none (none-is q) }
 
     -- a boundary, in a mail: the first level
     pub head-multi : {r : Walk} {v : List ℕ} (m : Mail) (o l : ℕ) → k .boundary ≡ Of o l
-        → Inner s u n (at + e) (λ os. then [] (preamble m (piece s (record { at = at + o; len = l })) os)) (popped m) (Within s (record { at = at + o; len = l }) (record { at = at + o; len = l }) 7) r v
+        → Inner s u n (at + e) (λ os. then [] (preamble m (piece s (record { at = at + o; len = l })) os)) (popped m)
+        (Within s (record { at = at + o; len = l }) (record { at = at + o; len = l }) 7) r v
         → Walks s t log at (then [] (head m unknown [])) (afterMail m) r v
     unfolding begun outermost
     head-multi {r} {v} m o l q w =
@@ -132,7 +140,8 @@ module _ (s : List ℕ) {t : List ℕ} {log : Log} {at : ℕ} {u : List ℕ} whe
 
     module _ (m : Mail) (b outer : Boundary) (levels o l : ℕ) (q : k .boundary ≡ Of o l) where
       -- the ninth level
-      pub part-ninth : {a : Answer} → levels ≡ 0 → Stopped TooDeep (at + e) n a → Parts s t log at m (piece s b) (λ os. then [] (head m unknown (piece s b ∷ os))) (Within s b outer levels) (parted.Stopped a) u
+      pub part-ninth : {a : Answer} → levels ≡ 0 → Stopped TooDeep (at + e) n a
+          → Parts s t log at m (piece s b) (λ os. then [] (head m unknown (piece s b ∷ os))) (Within s b outer levels) (parted.Stopped a) u
       unfolding begun
       part-ninth z c = record {
         moved = tt;
@@ -143,7 +152,8 @@ module _ (s : List ℕ) {t : List ℕ} {log : Log} {at : ℕ} {u : List ℕ} whe
 
       -- a deeper one
       pub part-deeper : (r : Walk) {v : List ℕ} → (levels ≡ 0 → ⊥)
-          → Inner s u n (at + e) (λ os. then [] (preamble m (piece s (record { at = at + o; len = l })) os)) (popped m) (Within s (record { at = at + o; len = l }) outer (levels - 1)) r v
+          → Inner s u n (at + e) (λ os. then [] (preamble m (piece s (record { at = at + o; len = l })) os)) (popped m)
+          (Within s (record { at = at + o; len = l }) outer (levels - 1)) r v
           → Parts s t log at m (piece s b) (λ os. then [] (head m unknown (piece s b ∷ os))) (Within s b outer levels) (behind r) v
       unfolding begun outermost
       part-deeper r {v} z w = record {

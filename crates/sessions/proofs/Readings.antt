@@ -70,7 +70,8 @@ full-if true log h = absurd (let z : _≡_ {A = ℕ} 0 1 = cc in omega arith)
 full-if false log h = refl
 
 module _ {t : List ℕ} {log : Log} {e : Event} {u : List ℕ} where
-  pub put-written : (next : Log) → Puts t log e (Written next) u → (es : List Event) (o : Ran State) → settle u (next .count) (before es o) ≡ settle t (log .count) (before (e ∷ es) o)
+  pub put-written : (next : Log) → Puts t log e (Written next) u → (es : List Event) (o : Ran State)
+      → settle u (next .count) (before es o) ≡ settle t (log .count) (before (e ∷ es) o)
   unfolding settle pour
   put-written next p es o =
       let w = written-if (ltb (log .count) (slots t)) next (record { count = log .count + 1 }) (p .answer) in

@@ -68,7 +68,8 @@ module _ (s : List ℕ) (at end : ℕ) {o n : ℕ} where
 
 -- ---- the first line
 module _ {s t : List ℕ} {log : Log} {to : ℕ → State} where
-  pub hello-said : {e : ℕ} {r : Walk} {u : List ℕ} → Ends aLine s 0 e → startsWithHelo (take e s) ≡ true → Walks s t log e (then [] second) to r u → Walks s t log 0 (then [] hello) to r u
+  pub hello-said : {e : ℕ} {r : Walk} {u : List ℕ} → Ends aLine s 0 e → startsWithHelo (take e s) ≡ true → Walks s t log e (then [] second) to r u
+      → Walks s t log 0 (then [] hello) to r u
   unfolding reacts onHello wants
   hello-said {e} d h w = let k : e - 0 ≡ e = omega arith in read hello d (rw (k, h) w)
 
@@ -143,7 +144,8 @@ module _ {s t : List ℕ} {log : Log} {at : ℕ} {to : ℕ → State} {u : List 
     unfolding user-lists reacts onUser
     user-on d w = line-on (user-lists at) d w
 
-    pub password-on : {r : Walk} {v : List ℕ} → LinedTo s t log at event.password end e next u → Walks s u next e (then [] sender) to r v → Walks s t log at (then [] password) to r v
+    pub password-on : {r : Walk} {v : List ℕ} → LinedTo s t log at event.password end e next u → Walks s u next e (then [] sender) to r v
+        → Walks s t log at (then [] password) to r v
     unfolding password-lists reacts onPassword
     password-on d w = line-on (password-lists at) d w
 

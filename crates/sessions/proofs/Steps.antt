@@ -37,7 +37,8 @@ module _ {s t : List ℕ} {log : Log} {to : ℕ → State} where
   pub read-stop : {at : ℕ} {o : Outcome} {a : Answer} (ph : Phase) → Stops (wants ph) s at o → Stopped o at log a → Walks s t log at (goes (reads ph)) to (walk.Stopped a) t
   read-stop {at} {o} ph d w = record { moved = tt; is = rw (w .result, w .place, w .count) (d .is ph refl at t (log .count)) }
 
-  pub read : {at e : ℕ} {r : Walk} {u : List ℕ} (ph : Phase) → Ends (wants ph) s at e → Walks s t log e (reacts ph at (part s at e)) to r u → Walks s t log at (goes (reads ph)) to r u
+  pub read : {at e : ℕ} {r : Walk} {u : List ℕ} (ph : Phase) → Ends (wants ph) s at e → Walks s t log e (reacts ph at (part s at e)) to r u
+      → Walks s t log at (goes (reads ph)) to r u
   read {at} {e} {r} ph d w =
       let n : at + (e - at) ≡ e = omega (arith, d .on) in
       record {
@@ -46,15 +47,18 @@ module _ {s t : List ℕ} {log : Log} {to : ℕ → State} where
       }
 
   -- ---- an event that finds no slot, or goes into the table
-  pub note-stop : {at : ℕ} {e : Event} {a : Answer} {u : List ℕ} (es : List Event) (st : State) → Notes t log e (noted.Stopped a) u → Walks s t log at (record { events = e ∷ es; next = st }) to (walk.Stopped a) u
+  pub note-stop : {at : ℕ} {e : Event} {a : Answer} {u : List ℕ} (es : List Event) (st : State) → Notes t log e (noted.Stopped a) u
+      → Walks s t log at (record { events = e ∷ es; next = st }) to (walk.Stopped a) u
   note-stop {at} es st n = record { moved = tt; is = n .is es (session st at (drop at s)) }
 
-  pub note : {at : ℕ} {e : Event} {next : Log} {u v : List ℕ} {r : Walk} (es : List Event) (st : State) → Notes t log e (noted.Written next) u → Walks s u next at (record { events = es; next = st }) to r v → Walks s t log at (record { events = e ∷ es; next = st }) to r v
+  pub note : {at : ℕ} {e : Event} {next : Log} {u v : List ℕ} {r : Walk} (es : List Event) (st : State) → Notes t log e (noted.Written next) u
+      → Walks s u next at (record { events = es; next = st }) to r v → Walks s t log at (record { events = e ∷ es; next = st }) to r v
   note {at} es st n w = record { moved = w .moved; is = w .is ∙ n .is es (session st at (drop at s)) }
 
 -- ---- a walk, and what follows it
 module _ {s t : List ℕ} {log : Log} {at : ℕ} {from : Reaction State} {mid : ℕ → State} {u : List ℕ} where
-  pub walked : {p : ℕ} {next : Log} {to : ℕ → State} {r : Walk} {v : List ℕ} → Walks s t log at from mid (walk.Went p next) u → Walks s u next p (goes (mid p)) to r v → Walks s t log at from to r v
+  pub walked : {p : ℕ} {next : Log} {to : ℕ → State} {r : Walk} {v : List ℕ} → Walks s t log at from mid (walk.Went p next) u → Walks s u next p (goes (mid p)) to r v
+      → Walks s t log at from to r v
   walked {p} {r = r} a b = record { moved = further s at p r (a .moved .0) (b .moved); is = b .is ∙ a .is }
 
   pub stopped : {to : ℕ → State} {a : Answer} → Walks s t log at from mid (walk.Stopped a) u → Walks s t log at from to (walk.Stopped a) u
