@@ -34,11 +34,12 @@ blank = record { encoding = Unsaid; seen = false; boundary = Unsupplied }
 pub record HeadAt (h t : List ℕ) (log : Log) (base : ℕ) (k : Scan) (p : ℕ) (n : Log) (u : List ℕ) : Type 0 where
   pub within : p ≤ length h
   pub inside : Inside h (k .boundary)
+  pub long : length u ≡ length t
   pub is : (m : Mail) (os : List (List ℕ))
       → settle u (n .count) (session (reads (head m (knownOf h k) os)) (base + p) (drop p h)) ≡ settle t (log .count) (session (reads (head m unknown os)) base h)
 
 pub head-start : (h t : List ℕ) (log : Log) (base : ℕ) → HeadAt h t log base blank 0 log t
-head-start h t log base = record { within = omega arith; inside = tt; is = λ m os. rw add-zero }
+head-start h t log base = record { within = omega arith; inside = tt; long = refl; is = λ m os. rw add-zero }
 
 -- what the blank line or another does, behind its event
 abbrev turned : Mail → Known → List (List ℕ) → ℕ → List ℕ → Bool → Reaction State
@@ -83,10 +84,12 @@ module _ {h t : List ℕ} {log : Log} {base : ℕ} {k : Scan} {p : ℕ} {n : Log
             ∙ w .is m os;
       }
 
-      pub head-line : {j : Scan} → same crlf (part h p e) ≡ false → Says h (scanned (knownOf h k) (part h p e)) j → HeadAt h t log base j e next v
-      head-line {j} q y = record {
+      pub head-line : {j : Scan} → same crlf (part h p e) ≡ false → Says h (scanned (knownOf h k) (part h p e)) j → length v ≡ length u
+          → HeadAt h t log base j e next v
+      head-line {j} q y l = record {
         within = d .within;
         inside = y .inside;
+        long = l ∙ w .long;
         is = λ m os.
             ap (λ (x : Known). settle v (next .count) (session (reads (head m x os)) (base + e) (drop e h))) (y .is)
             ∙ c .is [] (session (reads (head m (scanned (knownOf h k) (part h p e)) os)) (base + e) (drop e h))

@@ -24,6 +24,14 @@ pub further : (s : List ℕ) (i j : ℕ) (r : Walk) → i ≤ j → Moved s j r 
 further s i j (walk.Went p log) h m = (omega arith, m .1)
 further s i j (walk.Stopped a) h m = tt
 
+-- ---- a loop over the lines of a phase, which has come from `at` to p
+pub record Looped (s t : List ℕ) (log : Log) (at : ℕ) (ph : Phase) (p : ℕ) (n : Log) (u : List ℕ) : Type 0 where
+  pub walks : Walks s t log at (goes (reads ph)) (λ q. reads ph) (walk.Went p n) u
+  pub long : length u ≡ length t
+
+pub not-yet : {s t : List ℕ} {log : Log} {at : ℕ} {ph : Phase} → at ≤ length s → Looped s t log at ph at log t
+not-yet h = record { walks = record { moved = (omega arith, h); is = refl }; long = refl }
+
 module _ {s t : List ℕ} {log : Log} {to : ℕ → State} where
   -- ---- where a walk is already
   pub here : (p : ℕ) → p ≤ length s → Walks s t log p (goes (to p)) to (walk.Went p log) t

@@ -1,23 +1,24 @@
 -- `sessions::multi::multi_body` and `part` meet their contracts: they call each other, and the levels left fall. The loop's invariant: what is left at
 -- p is what was left behind the preamble. Assumes nothing.
-use mathlib.Core.Path.{_≡_, refl, _∙_}
+use mathlib.Core.Path.{_≡_, _∙_}
 use mathlib.Core.List.{List, [], _∷_}
 use Prim.Native.Nat.{ℕ, _+_, _-_, _≤_, _<_}
 use native.Mathlib.Omega.{arith}
-use lib.ListN.{length, length-drop}
+use lib.ListN.{length, drop, length-drop}
 use borrow.Author.Needs.{needs}
 use borrow.Fn.Kinds.{In}
 use borrow.Fn.PlainCycle.{Measures, is, falls, and}
 use Rattle.fields.specs.Common.{unknown}
 use Rattle.reading.proofs.Words.{rest-is}
 use Rattle.rules.specs.Mail.{outermost, popped}
-use Rattle.rules.specs.Phases.{reads, head}
-use Rattle.sessions.specs.Walks.{goes, Walks, piece, Within}
+use Rattle.rules.specs.Phases.{reads, head, preamble, then}
+use Rattle.sessions.specs.Walks.{Walks, Headers, piece, Lies, Within}
+use Rattle.sessions.specs.declared.header.Headed.the-variants as headed
 use Rattle.sessions.specs.declared.reads.Walk.the-variants as walk
 use Rattle.sessions.proofs.MailTurns.{begun-on}
-use Rattle.sessions.proofs.Parting.{outermost-none, inner, parted-stop, as-next, as-closed, as-stopped, head-stopped, head-within, head-lies, part-plain, part-ninth}
-use Rattle.sessions.proofs.Parting.{part-deeper}
-use Rattle.sessions.proofs.Steps.{further, here, walked, stopped}
+use Rattle.sessions.proofs.Parting.{outermost-none, inner, parted-stop, as-closed, as-stopped, SoFar, none-so-far, one-more}
+use Rattle.sessions.proofs.Parting.{supplied, answered, head-stopped, head-within, head-lies, part-plain, part-ninth, part-deeper}
+use Rattle.sessions.proofs.Steps.{further, walked, stopped}
 use Rattle.sessions.proofs.multi.+multi_body+part.{statement}
 use Rattle.sessions.proofs.multi.+multi_body+part.Lts-multi_body as multi-body-lts
 use Rattle.sessions.proofs.multi.+multi_body+part.Lts-part as part-lts
@@ -32,6 +33,7 @@ use Rattle.sessions.proofs.multi.part.Reads as part
 use Rattle.sessions.proofs.multi.preamble.Reads as preamble-reads
 use Rattle.sessions.proofs.reads.stopped.Reads as stopped-reads
 
+-- ---- the measures: the levels left; a multipart is above the parts of its own level
 abbrev μ-multi-body : Measures 2 multi-body-kinds.ps ℕ
 μ-multi-body κs a = a .1 .1 .1 .1 .0 + a .1 .1 .1 .1 .0 + 1
 
@@ -52,314 +54,258 @@ part-at t = and 2 part-kinds.ps (is 2 part-kinds.ps μ-part t) part.Pre
 abbrev part-below : ℕ → In 2 part-kinds.ps
 part-below t = and 2 part-kinds.ps (falls 2 part-kinds.ps _<_ μ-part t) part.Pre
 
+-- ---- the loop of multi_body
 abbrev multi-body-Inv-loop : multi-body-lts.InvT-loop
-multi-body-Inv-loop s at b outer levels mail table₀ first p₀ n₀ table p n = (first ≤ p) × (p ≤ length s) × (length table ≡ length table₀) ×
-    ((os : List (List ℕ)) → Within s b outer levels os → Walks s table₀ n₀ first (goes (reads (head mail unknown (piece s b ∷ os))))
-    (λ q. reads (head mail unknown (piece s b ∷ os))) (walk.Went p n) table)
+multi-body-Inv-loop s at b outer levels mail table₀ first p₀ n₀ table p n = SoFar s table₀ n₀ first b outer levels mail p n table
 
 abbrev multi-body-μ-loop : multi-body-lts.MeasureT-loop
 multi-body-μ-loop s at b outer levels mail table₀ first p₀ n₀ table p n = length s - p
 
-abbrev multi-body-callees : ℕ → multi-body-lts.Claims
-multi-body-callees t = (preamble-reads.Asked, preamble-reads.Learnt, part-below t, part.Post, epilogue-reads.Asked, epilogue-reads.Learnt)
+-- ---- multi_body
+module _ (t : ℕ) where
+  abbrev multi-body-callees : multi-body-lts.Claims
+  multi-body-callees = (preamble-reads.Asked, preamble-reads.Learnt, part-below t, part.Post, epilogue-reads.Asked, epilogue-reads.Learnt)
 
-multi-body-preamble-requires : (t : ℕ) → multi-body-lts.Need-preamble-requires (multi-body-callees t) (multi-body-at t) multi-body.Post multi-body-Inv-loop multi-body-μ-loop
-multi-body-preamble-requires t c κs =
-    let pre = c .before .before .pre in
-    (pre .1 .1, pre .1 .3)
+  -- four places: the entry, behind the preamble's answer `Went`, the loop's head, behind the call of `part`
+  abbrev Multi-start : Type 0
+  Multi-start = multi-body-lts.Start multi-body-callees (multi-body-at t) multi-body.Post multi-body-Inv-loop multi-body-μ-loop
 
--- on the way: preamble, first
-multi-body-loop-holds : (t : ℕ) → multi-body-lts.Need-loop-holds (multi-body-callees t) (multi-body-at t) multi-body.Post multi-body-Inv-loop multi-body-μ-loop
-multi-body-loop-holds t c =
-    let first-is = c .before .first .given .1 in
-    let after-preamble = c .before .before .before in
-    let preamble-ensures = after-preamble .preamble .ensures in
-    let start = after-preamble .before .before .before in
-    let mail = start .args .mail in
-    let table = start .args .table .now in
-    let preamble-told = rw first-is at (preamble-ensures mail [] table) in
-    (omega arith, preamble-told .moved .1, refl, λ os f. here _ (preamble-told .moved .1))
+  abbrev Multi-first : Type 0
+  Multi-first = multi-body-lts.After-first multi-body-callees (multi-body-at t) multi-body.Post multi-body-Inv-loop multi-body-μ-loop
 
--- on the way: preamble, first, loop
-multi-body-part-requires : (t : ℕ) → multi-body-lts.Need-part-requires (multi-body-callees t) (multi-body-at t) multi-body.Post multi-body-Inv-loop multi-body-μ-loop
-multi-body-part-requires t c κs =
-    let loop-inv = c .before .loop .inv in
-    let after-first = c .before .before .before in
-    let first-is = after-first .first .given .1 in
-    let after-preamble = after-first .before .before in
-    let preamble-ensures = after-preamble .preamble .ensures in
-    let start = after-preamble .before .before .before in
-    let pre = start .pre in
-    let mail = start .args .mail in (
-      omega arith,
-      (
-        pre .1 .0,
-        loop-inv .1,
-        begun-on mail (start .args .at) _ (pre .1 .2)
-            (omega (arith, loop-inv .0, (rw first-is at (preamble-ensures mail [] (start .args .table .now))) .moved .0)),
-        pre .1 .3,
-        pre .1 .4,
-      ),
-    )
+  abbrev Multi-loop : Type 0
+  Multi-loop = multi-body-lts.At-loop multi-body-callees (multi-body-at t) multi-body.Post multi-body-Inv-loop multi-body-μ-loop
 
--- on the way: preamble, first, loop, part, to
-multi-body-loop-less : (t : ℕ) → multi-body-lts.Need-loop-less (multi-body-callees t) (multi-body-at t) multi-body.Post multi-body-Inv-loop multi-body-μ-loop
-multi-body-loop-less t c =
-    let to-is = c .before .to .given .1 in
-    let part-ensures = c .before .before .before .before .before .part .ensures in
-    let part-told = rw to-is at part-ensures in
-    omega (arith, part-told .moved .0, part-told .moved .1)
+  abbrev Multi-part : Type 0
+  Multi-part = multi-body-lts.After-part multi-body-callees (multi-body-at t) multi-body.Post multi-body-Inv-loop multi-body-μ-loop
 
--- on the way: preamble, first, loop, part, to
-multi-body-loop-again : (t : ℕ) → multi-body-lts.Need-loop-again (multi-body-callees t) (multi-body-at t) multi-body.Post multi-body-Inv-loop multi-body-μ-loop
-multi-body-loop-again t c =
-    let to-is = c .before .to .given .1 in
-    let after-part = c .before .before .before .before .before in
-    let part-ensures = after-part .part .ensures in
-    let part-kept = after-part .part .kept in
-    let loop-inv = after-part .before .before .loop .inv in
-    let part-told = rw to-is at part-ensures in
-    (omega (arith, loop-inv .0, part-told .moved .0), part-told .moved .1, part-kept .1 .1 .1 .1 .1 .1 .0 ∙ loop-inv .2, λ os f. walked (loop-inv .3 os f) (as-next os f part-told))
+  abbrev first-entry : Multi-first → Multi-start
+  first-entry c = c .before .before .before .before .before
 
--- on the way: preamble, first, loop, part, to2
-multi-body-epilogue-requires : (t : ℕ) → multi-body-lts.Need-epilogue-requires (multi-body-callees t) (multi-body-at t) multi-body.Post multi-body-Inv-loop multi-body-μ-loop
-multi-body-epilogue-requires t c κs =
-    let to2-is = c .before .to2 .given .1 in
-    let after-part = c .before .before .before .before .before in
-    let part-ensures = after-part .part .ensures in
-    let after-loop = after-part .before .before in
-    let loop-inv = after-loop .loop .inv in
-    let after-first = after-loop .before .before in
-    let first-is = after-first .first .given .1 in
-    let after-preamble = after-first .before .before in
-    let preamble-ensures = after-preamble .preamble .ensures in
-    let start = after-preamble .before .before .before in
-    let pre = start .pre in
-    let mail = start .args .mail in
-    let part-told = rw to2-is at part-ensures in (
-      pre .1 .0,
-      part-told .moved .1,
-      begun-on mail (start .args .at) _ (pre .1 .2)
-          (omega (arith, loop-inv .0, (rw first-is at (preamble-ensures mail [] (start .args .table .now))) .moved .0, part-told .moved .0)),
-      omega (arith, pre .1 .3, pre .1 .4),
-    )
+  abbrev loop-entry : Multi-loop → Multi-start
+  loop-entry c = first-entry (c .before .before)
 
--- on the way: preamble, first, loop, part, to2, epilogue
-multi-body-same-length : (t : ℕ) → multi-body-lts.Need-same-length (multi-body-callees t) (multi-body-at t) multi-body.Post multi-body-Inv-loop multi-body-μ-loop
-multi-body-same-length t c =
-    let after-part = c .before .before .before .before .before .before in
-    let part-kept = after-part .part .kept in
-    let loop-inv = after-part .before .before .loop .inv in
-    part-kept .1 .1 .1 .1 .1 .1 .0 ∙ loop-inv .2
+  -- the preamble has been walked, whatever lies outside
+  opened : (c : Multi-first) (os : List (List ℕ)) →
+      let a = first-entry c .args in
+      let b = piece (a .s .now) (a .b) in
+      let g = c .first .given .0 in
+      Walks (a .s .now) (a .table .now) (a .log) (a .at) (then [] (preamble (a .mail) b os)) (λ q. reads (head (a .mail) unknown (b ∷ os))) (walk.Went (g .0) (g .1 .0)) (a .table .now)
+  opened c os =
+      let a = c .before .before .before .before .before .args in
+      rw (c .first .given .1) at (c .before .before .preamble .ensures (a .mail) os (a .table .now))
 
--- on the way: preamble, first, loop, part, to2, epilogue
-multi-body-returns : (t : ℕ) → multi-body-lts.Need-returns (multi-body-callees t) (multi-body-at t) multi-body.Post multi-body-Inv-loop multi-body-μ-loop
-multi-body-returns t c =
-    let to2-given = c .before .before .to2 .given in
-    let to2-is = c .before .before .to2 .given .1 in
-    let after-part = c .before .before .before .before .before .before in
-    let part-ensures = after-part .part .ensures in
-    let part-last = after-part .part .last in
-    let after-loop = after-part .before .before in
-    let loop-inv = after-loop .loop .inv in
-    let after-first = after-loop .before .before in
-    let first-is = after-first .first .given .1 in
-    let after-preamble = after-first .before .before in
-    let preamble-ensures = after-preamble .preamble .ensures in
-    let start = after-preamble .before .before .before in
-    let s = start .args .s .now in
-    let mail = start .args .mail in
-    let table = start .args .table .now in
-    let part-told = rw to2-is at part-ensures in
-    inner (further s (start .args .at) (to2-given .0 .0) (c .epilogue .result)
-    (omega (arith, loop-inv .0, (rw first-is at (preamble-ensures mail [] table)) .moved .0, part-told .moved .0))
-    (c .epilogue .ensures _ [] (outermost-none _) (part-last .1 .1 .1 .1 .1 .1 .0) .moved))
-    (λ os f. walked (rw first-is at (preamble-ensures mail os table))
-    (walked (loop-inv .3 os f) (walked (as-closed os f part-told) (c .epilogue .ensures (piece s (start .args .b)) os (f .outermost) (part-last .1 .1 .1 .1 .1 .1 .0)))))
+  -- at the loop's head: the place lies behind the entry's
+  on : (c : Multi-loop) → loop-entry c .args .at ≤ c .loop .p
+  on c = omega (arith, c .loop .inv .on, opened (c .before .before) [] .moved .0)
 
--- on the way: preamble, first, loop, part, a2
-multi-body-same-length-2 : (t : ℕ) → multi-body-lts.Need-same-length-2 (multi-body-callees t) (multi-body-at t) multi-body.Post multi-body-Inv-loop multi-body-μ-loop
-multi-body-same-length-2 t c =
-    let after-part = c .before .before .before .before .before in
-    let part-kept = after-part .part .kept in
-    let loop-inv = after-part .before .before .loop .inv in
-    part-kept .1 .1 .1 .1 .1 .1 .0 ∙ loop-inv .2
+  -- at the loop's head: preamble and parts so far have been walked
+  so-far : (c : Multi-loop) (os : List (List ℕ)) →
+      let a = loop-entry c .args in
+      let b = piece (a .s .now) (a .b) in
+      Within (a .s .now) (a .b) (a .outer) (a .levels) os →
+      Walks (a .s .now) (a .table .now) (a .log) (a .at) (then [] (preamble (a .mail) b os)) (λ q. reads (head (a .mail) unknown (b ∷ os))) (walk.Went (c .loop .p) (c .loop .n)) (c .loop .table)
+  so-far c os f = walked (opened (c .before .before) os) (c .loop .inv .walks os f)
 
--- on the way: preamble, first, loop, part, a2
-multi-body-returns-2 : (t : ℕ) → multi-body-lts.Need-returns-2 (multi-body-callees t) (multi-body-at t) multi-body.Post multi-body-Inv-loop multi-body-μ-loop
-multi-body-returns-2 t c =
-    let after-part = c .before .before .before .before .before in
-    let part-ensures = after-part .part .ensures in
-    let after-loop = after-part .before .before in
-    let loop-inv = after-loop .loop .inv in
-    let after-first = after-loop .before .before in
-    let first-is = after-first .first .given .1 in
-    let after-preamble = after-first .before .before in
-    let preamble-ensures = after-preamble .preamble .ensures in
-    let start = after-preamble .before .before .before in
-    let mail = start .args .mail in
-    inner tt (λ os f. walked (rw first-is at (preamble-ensures mail os (start .args .table .now)))
-    (walked (loop-inv .3 os f) (as-stopped os f (popped mail os) (rw (c .before .a2 .given .1) at part-ensures))))
+  -- behind a part: the table has kept its length
+  kept : (c : Multi-part) → length (c .part .last .1 .1 .1 .1 .1 .1 .0) ≡ length (loop-entry (c .before .before) .args .table .now)
+  kept c = c .part .kept .1 .1 .1 .1 .1 .1 .0 ∙ c .before .before .loop .inv .long
 
--- on the way: preamble, a
-multi-body-returns-3 : (t : ℕ) → multi-body-lts.Need-returns-3 (multi-body-callees t) (multi-body-at t) multi-body.Post multi-body-Inv-loop multi-body-μ-loop
-multi-body-returns-3 t c =
-    let after-preamble = c .before .before .before in
-    let preamble-ensures = after-preamble .preamble .ensures in
-    let start = after-preamble .before .before .before in
-    inner tt (λ os f. stopped (rw (c .before .a .given .1) at (preamble-ensures (start .args .mail) os (start .args .table .now))))
+  -- the call of `preamble`
+  multi-body-preamble-requires : multi-body-lts.Need-preamble-requires multi-body-callees (multi-body-at t) multi-body.Post multi-body-Inv-loop multi-body-μ-loop
+  multi-body-preamble-requires c κs = (c .before .before .pre .1 .1, c .before .before .pre .1 .3)
 
-abbrev part-callees : ℕ → part-lts.Claims
-part-callees t = (
-  header-reads.Asked,
-  header-reads.Learnt,
-  content-reads.Asked,
-  content-reads.Learnt,
-  stopped-reads.Asked,
-  stopped-reads.Learnt,
-  multi-body-below t,
-  multi-body.Post,
-)
+  -- the invariant holds behind the preamble
+  multi-body-loop-holds : multi-body-lts.Need-loop-holds multi-body-callees (multi-body-at t) multi-body.Post multi-body-Inv-loop multi-body-μ-loop
+  multi-body-loop-holds c = none-so-far (opened (c .before) [] .moved .1)
 
-part-header-requires : (t : ℕ) → part-lts.Need-header-requires (part-callees t) (part-at t) part.Post
-part-header-requires t c κs =
-    let start = c .before .before .before .before in
-    let s = start .args .s .now in
-    let at = start .args .at in
-    let pre = start .pre in
-    rw (rest-is s at) (omega (arith, length-drop at s, pre .1 .0, pre .1 .1))
+  -- the call of `part`: the same levels, and its measure is one less
+  multi-body-part-requires : multi-body-lts.Need-part-requires multi-body-callees (multi-body-at t) multi-body.Post multi-body-Inv-loop multi-body-μ-loop
+  multi-body-part-requires c κs =
+      let start = loop-entry (c .before) in
+      let pre = start .pre .1 in
+      (omega arith, (pre .0, c .before .loop .inv .within, begun-on (start .args .mail) (start .args .at) _ (pre .2) (on (c .before)), pre .3, pre .4))
 
--- on the way: header, known
-part-add-to : (t : ℕ) → part-lts.Need-add-to (part-callees t) (part-at t) part.Post
-part-add-to t c =
-    let after-header = c .before .before .before .before .before in
-    let header-ensures = after-header .header .ensures in
-    let start = after-header .before .before .before .before .before in
-    let s = start .args .s .now in
-    omega (arith, head-within s (rw (rest-is s (start .args .at), c .before .known .given .1) at header-ensures) (start .pre .1 .1))
+  -- a part that says `Next` goes on
+  multi-body-loop-less : multi-body-lts.Need-loop-less multi-body-callees (multi-body-at t) multi-body.Post multi-body-Inv-loop multi-body-μ-loop
+  multi-body-loop-less c =
+      let next = rw (c .before .to .given .1) at (c .before .before .before .before .before .part .ensures) in
+      omega (arith, next .moved .0, next .moved .1)
 
--- on the way: header, known, enum-told
-part-content-requires : (t : ℕ) → part-lts.Need-content-requires (part-callees t) (part-at t) part.Post
-part-content-requires t c κs =
-    let after-known = c .before .before .before .before in
-    let known-is = after-known .known .given .1 in
-    let after-header = after-known .before .before .before .before in
-    let header-ensures = after-header .header .ensures in
-    let start = after-header .before .before .before .before .before in
-    let pre = start .pre in
-    let s = start .args .s .now in
-    (pre .1 .0, head-within s (rw (rest-is s (start .args .at), known-is) at header-ensures) (pre .1 .1), pre .1 .3)
+  -- .. and the invariant holds behind it
+  multi-body-loop-again : multi-body-lts.Need-loop-again multi-body-callees (multi-body-at t) multi-body.Post multi-body-Inv-loop multi-body-μ-loop
+  multi-body-loop-again c =
+      let called = c .before .before .before .before .before in
+      one-more (called .before .before .loop .inv) (rw (c .before .to .given .1) at (called .part .ensures)) (called .part .kept .1 .1 .1 .1 .1 .1 .0)
 
--- on the way: header, known, boundary, if1, stopped
-part-returns : (t : ℕ) → part-lts.Need-returns (part-callees t) (part-at t) part.Post
-part-returns t c =
-    let after-boundary = c .before .before .before in
-    let boundary-is = after-boundary .boundary .given .1 in
-    let after-known = after-boundary .before .before .before in
-    let known-is = after-known .known .given .1 in
-    let after-header = after-known .before .before .before .before in
-    let header-ensures = after-header .header .ensures in
-    let start = after-header .before .before .before .before .before in
-    let s = start .args .s .now in
-    part-ninth s (rw (rest-is s (start .args .at), known-is) at header-ensures) (start .args .mail) (start .args .b) (start .args .outer) (start .args .levels) _ _ boundary-is
-    (c .before .if1 .taken) (c .stopped .ensures)
+  -- the call of `epilogue`, behind a part that says `Closed`
+  multi-body-epilogue-requires : multi-body-lts.Need-epilogue-requires multi-body-callees (multi-body-at t) multi-body.Post multi-body-Inv-loop multi-body-μ-loop
+  multi-body-epilogue-requires c κs =
+      let called = c .before .before .before .before .before in
+      let loop = called .before .before in
+      let start = loop-entry loop in
+      let pre = start .pre .1 in
+      let closed = rw (c .before .to2 .given .1) at (called .part .ensures) in
+      (pre .0, closed .moved .1, begun-on (start .args .mail) (start .args .at) _ (pre .2) (omega (arith, on loop, closed .moved .0)), omega (arith, pre .3, pre .4))
 
--- on the way: header, known, boundary, if1
-part-add-multi-body : (t : ℕ) → part-lts.Need-add-multi-body (part-callees t) (part-at t) part.Post
-part-add-multi-body t c =
-    let boundary-is = c .before .before .boundary .given .1 in
-    let after-known = c .before .before .before .before .before in
-    let known-is = after-known .known .given .1 in
-    let after-header = after-known .before .before .before .before in
-    let header-ensures = after-header .header .ensures in
-    let start = after-header .before .before .before .before .before in
-    let s = start .args .s .now in
-    omega (arith, head-lies s (rw (rest-is s (start .args .at), known-is) at header-ensures) _ _ (start .pre .1 .1) boundary-is)
+  multi-body-same-length : multi-body-lts.Need-same-length multi-body-callees (multi-body-at t) multi-body.Post multi-body-Inv-loop multi-body-μ-loop
+  multi-body-same-length c = kept (c .before .before .before .before .before .before)
 
--- on the way: header, known, boundary, if1
-part-multi-body-requires : (t : ℕ) → part-lts.Need-multi-body-requires (part-callees t) (part-at t) part.Post
-part-multi-body-requires t c κs =
-    let after-boundary = c .before .before .before in
-    let boundary-is = after-boundary .boundary .given .1 in
-    let after-known = after-boundary .before .before .before in
-    let known-is = after-known .known .given .1 in
-    let after-header = after-known .before .before .before .before in
-    let header-ensures = after-header .header .ensures in
-    let start = after-header .before .before .before .before .before in
-    let pre = start .pre in
-    let s = start .args .s .now in
-    let at = start .args .at in
-    let header-told = rw (rest-is s at, known-is) at header-ensures in (
-      omega arith,
-      (
-        pre .1 .0,
-        head-within s header-told (pre .1 .1),
-        begun-on (start .args .mail) at _ (pre .1 .2) (omega arith),
-        head-lies s header-told _ _ (pre .1 .1) boundary-is,
-        pre .1 .4,
-      ),
-    )
+  multi-body-same-length-2 : multi-body-lts.Need-same-length-2 multi-body-callees (multi-body-at t) multi-body.Post multi-body-Inv-loop multi-body-μ-loop
+  multi-body-same-length-2 c = kept (c .before .before .before .before .before)
 
--- on the way: header, a
-part-returns-2 : (t : ℕ) → part-lts.Need-returns-2 (part-callees t) (part-at t) part.Post
-part-returns-2 t c =
-    let after-header = c .before .before .before .before .before in
-    let header-ensures = after-header .header .ensures in
-    let start = after-header .before .before .before .before .before in
-    let mail = start .args .mail in
-    let s = start .args .s .now in
-    parted-stop (λ os. popped mail os) (λ os f. head-stopped s (rw (rest-is s (start .args .at), c .before .a .given .1) at header-ensures) mail (piece s (start .args .b) ∷ os))
+  -- a way out: the closing delimiter, and the epilogue behind it
+  multi-body-returns : multi-body-lts.Need-returns multi-body-callees (multi-body-at t) multi-body.Post multi-body-Inv-loop multi-body-μ-loop
+  multi-body-returns c =
+      let told = c .before .before in
+      let called = told .before .before .before .before in
+      let loop = called .before .before in
+      let a = loop-entry loop .args in
+      let table = called .part .last .1 .1 .1 .1 .1 .1 .0 in
+      let closed = rw (told .to2 .given .1) at (called .part .ensures) in
+      let behind = c .epilogue .ensures in
+      inner
+      (further (a .s .now) (a .at) (told .to2 .given .0 .0) (c .epilogue .result) (omega (arith, on loop, closed .moved .0)) (behind _ [] (outermost-none _) table .moved))
+      (λ os f. walked (so-far loop os f) (walked (as-closed os f closed) (behind (piece (a .s .now) (a .b)) os (f .outermost) table)))
 
--- on the way: header, known, enum-told, content
-part-returns-3 : (t : ℕ) → part-lts.Need-returns-3 (part-callees t) (part-at t) part.Post
-part-returns-3 t c =
-    let content-ensures = c .before .before .content .ensures in
-    let after-enum-told = c .before .before .before .before in
-    let enum-told-is = after-enum-told .enum-told .given .1 in
-    let after-known = after-enum-told .before .before .before in
-    let known-is = after-known .known .given .1 in
-    let after-header = after-known .before .before .before .before in
-    let header-ensures = after-header .header .ensures in
-    let start = after-header .before .before .before .before .before in
-    let s = start .args .s .now in
-    let mail = start .args .mail in
-    part-plain s (rw (rest-is s (start .args .at), known-is) at header-ensures) mail (piece s (start .args .b)) enum-told-is (content-ensures mail)
+  -- a way out: a part stopped
+  multi-body-returns-2 : multi-body-lts.Need-returns-2 multi-body-callees (multi-body-at t) multi-body.Post multi-body-Inv-loop multi-body-μ-loop
+  multi-body-returns-2 c =
+      let called = c .before .before .before .before .before in
+      let loop = called .before .before in
+      let mail = loop-entry loop .args .mail in
+      let stop = rw (c .before .a2 .given .1) at (called .part .ensures) in
+      inner tt (λ os f. walked (so-far loop os f) (as-stopped os f (popped mail os) stop))
 
--- on the way: header, known, boundary, if1, multi-body, a2
-part-returns-4 : (t : ℕ) → part-lts.Need-returns-4 (part-callees t) (part-at t) part.Post
-part-returns-4 t c =
-    let after-multi-body = c .before .before .before .before .before in
-    let multi-body-ensures = after-multi-body .multi-body .ensures in
-    let after-if1 = after-multi-body .before .before in
-    let if1-left = after-if1 .if1 .left in
-    let after-boundary = after-if1 .before .before in
-    let boundary-is = after-boundary .boundary .given .1 in
-    let after-known = after-boundary .before .before .before in
-    let known-is = after-known .known .given .1 in
-    let after-header = after-known .before .before .before .before in
-    let header-ensures = after-header .header .ensures in
-    let start = after-header .before .before .before .before .before in
-    let s = start .args .s .now in
-    part-deeper s (rw (rest-is s (start .args .at), known-is) at header-ensures) (start .args .mail) (start .args .b) (start .args .outer) (start .args .levels) _ _ boundary-is
-    (walk.Stopped _) if1-left (rw (c .before .a2 .given .1) at multi-body-ensures)
+  -- a way out: the preamble stopped
+  multi-body-returns-3 : multi-body-lts.Need-returns-3 multi-body-callees (multi-body-at t) multi-body.Post multi-body-Inv-loop multi-body-μ-loop
+  multi-body-returns-3 c =
+      let called = c .before .before .before in
+      let a = called .before .before .before .args in
+      inner tt (λ os f. stopped (rw (c .before .a .given .1) at (called .preamble .ensures (a .mail) os (a .table .now))))
 
--- on the way: header, known, boundary, if1, multi-body, p
-part-returns-5 : (t : ℕ) → part-lts.Need-returns-5 (part-callees t) (part-at t) part.Post
-part-returns-5 t c =
-    let after-multi-body = c .before .before .before .before .before in
-    let multi-body-ensures = after-multi-body .multi-body .ensures in
-    let after-if1 = after-multi-body .before .before in
-    let if1-left = after-if1 .if1 .left in
-    let after-boundary = after-if1 .before .before in
-    let boundary-is = after-boundary .boundary .given .1 in
-    let after-known = after-boundary .before .before .before in
-    let known-is = after-known .known .given .1 in
-    let after-header = after-known .before .before .before .before in
-    let header-ensures = after-header .header .ensures in
-    let start = after-header .before .before .before .before .before in
-    let s = start .args .s .now in
-    part-deeper s (rw (rest-is s (start .args .at), known-is) at header-ensures) (start .args .mail) (start .args .b) (start .args .outer) (start .args .levels) _ _ boundary-is
-    (walk.Went _ _) if1-left (rw (c .before .p .given .1) at multi-body-ensures)
+-- ---- part
+module _ (t : ℕ) where
+  abbrev part-callees : part-lts.Claims
+  part-callees = (
+    header-reads.Asked,
+    header-reads.Learnt,
+    content-reads.Asked,
+    content-reads.Learnt,
+    stopped-reads.Asked,
+    stopped-reads.Learnt,
+    multi-body-below t,
+    multi-body.Post,
+  )
+
+  -- three places: the entry, behind the header's answer `Went`, behind the pattern `Of(o, len)`
+  abbrev Part-start : Type 0
+  Part-start = part-lts.Start part-callees (part-at t) part.Post
+
+  abbrev Part-known : Type 0
+  Part-known = part-lts.After-known part-callees (part-at t) part.Post
+
+  abbrev Part-boundary : Type 0
+  Part-boundary = part-lts.After-boundary part-callees (part-at t) part.Post
+
+  abbrev entry : Part-known → Part-start
+  entry c = c .before .before .before .before .before .before .before .before .before
+
+  abbrev known : Part-boundary → Part-known
+  known c = c .before .before .before
+
+  -- the header that begins at `at` has been read
+  went : (c : Part-known) →
+      let a = entry c .args in
+      let g = c .known .given .0 in
+      let table = c .before .before .before .before .header .last .1 .1 .0 in
+      Headers (drop (a .at) (a .s .now)) (a .table .now) (a .log) (a .at) (headed.Went (g .0) (g .1 .0) (g .1 .1 .0)) table
+  went c = answered (entry c .args .s .now) (c .known .given .1) (c .before .before .before .before .header .ensures)
+
+  -- the header ends inside the buffer
+  within : (c : Part-known) → entry c .args .at + c .known .given .0 .1 .0 ≤ length (entry c .args .s .now)
+  within c = head-within (entry c .args .s .now) (went c) (entry c .pre .1 .1)
+
+  -- its boundary lies inside the buffer
+  lies : (c : Part-boundary) →
+      let a = entry (known c) .args in
+      let g = c .boundary .given .0 in
+      Lies (a .s .now) (supplied (a .at) (g .0) (g .1 .0))
+  lies c = head-lies (entry (known c) .args .s .now) (went (known c)) _ _ (entry (known c) .pre .1 .1) (c .boundary .given .1)
+
+  -- the call of `header`, on `&s[at..]`
+  part-header-requires : part-lts.Need-header-requires part-callees (part-at t) part.Post
+  part-header-requires c κs =
+      let start = c .before .before .before .before in
+      let s = start .args .s .now in
+      let at = start .args .at in
+      rw (rest-is s at) (omega (arith, length-drop at s, start .pre .1 .0, start .pre .1 .1))
+
+  -- the sums `at + n` and `at + o` do not wrap
+  part-add-to : part-lts.Need-add-to part-callees (part-at t) part.Post
+  part-add-to c = omega (arith, within (c .before))
+
+  part-add-multi-body : part-lts.Need-add-multi-body part-callees (part-at t) part.Post
+  part-add-multi-body c = omega (arith, lies (c .before .before))
+
+  -- the call of `content`
+  part-content-requires : part-lts.Need-content-requires part-callees (part-at t) part.Post
+  part-content-requires c κs =
+      let k = c .before .before .before .before in
+      let pre = entry k .pre .1 in
+      (pre .0, within k, pre .3)
+
+  -- the call of `multi_body`, one level further in: the measure falls
+  part-multi-body-requires : part-lts.Need-multi-body-requires part-callees (part-at t) part.Post
+  part-multi-body-requires c κs =
+      let b = c .before .before .before in
+      let start = entry (known b) in
+      let pre = start .pre .1 in
+      (omega arith, (pre .0, within (known b), begun-on (start .args .mail) (start .args .at) _ (pre .2) (omega arith), lies b, pre .4))
+
+  -- a way out: the ninth level
+  part-returns : part-lts.Need-returns part-callees (part-at t) part.Post
+  part-returns c =
+      let b = c .before .before .before in
+      let a = entry (known b) .args in
+      part-ninth (a .s .now) (went (known b)) (a .mail) (a .b) (a .outer) (a .levels) _ _ (b .boundary .given .1) (c .before .if1 .taken) (c .stopped .ensures)
+
+  -- a way out: the header stopped
+  part-returns-2 : part-lts.Need-returns-2 part-callees (part-at t) part.Post
+  part-returns-2 c =
+      let h = c .before .before .before .before .before in
+      let a = h .before .before .before .before .before .args in
+      let s = a .s .now in
+      let stop = answered s (c .before .a .given .1) (h .header .ensures) in
+      parted-stop (λ os. popped (a .mail) os) (λ os f. head-stopped s stop (a .mail) (piece s (a .b) ∷ os))
+
+  -- a way out: no boundary, and a plain content
+  part-returns-3 : part-lts.Need-returns-3 part-callees (part-at t) part.Post
+  part-returns-3 c =
+      let told = c .before .before .before .before in
+      let k = told .before .before .before in
+      let a = entry k .args in
+      part-plain (a .s .now) (went k) (a .mail) (piece (a .s .now) (a .b)) (told .enum-told .given .1) (c .before .before .content .ensures (a .mail))
+
+  -- two ways out: an inner multipart, which stopped
+  part-returns-4 : part-lts.Need-returns-4 part-callees (part-at t) part.Post
+  part-returns-4 c =
+      let called = c .before .before .before .before .before in
+      let test = called .before .before in
+      let b = test .before .before in
+      let a = entry (known b) .args in
+      let stop = rw (c .before .a2 .given .1) at (called .multi-body .ensures) in
+      part-deeper (a .s .now) (went (known b)) (a .mail) (a .b) (a .outer) (a .levels) _ _ (b .boundary .given .1) (walk.Stopped _) (test .if1 .left) stop
+
+  -- .. or went
+  part-returns-5 : part-lts.Need-returns-5 part-callees (part-at t) part.Post
+  part-returns-5 c =
+      let called = c .before .before .before .before .before in
+      let test = called .before .before in
+      let b = test .before .before in
+      let a = entry (known b) .args in
+      let next = rw (c .before .p .given .1) at (called .multi-body .ensures) in
+      part-deeper (a .s .now) (went (known b)) (a .mail) (a .b) (a .outer) (a .levels) _ _ (b .boundary .given .1) (walk.Went _ _) (test .if1 .left) next
 
 pub +multi-body+part-spec : {M : Type 1} → statement M
 +multi-body+part-spec = close μ-multi-body μ-part (λ t. multi-body-lts.spec (multi-body-callees t)
