@@ -1,125 +1,108 @@
--- `sessions::smtp::client` meets its contract. Assumes nothing.
+-- `sessions::smtp::client` meets its contract: each walk goes on where the one before it came to. Assumes nothing.
+use mathlib.Core.List.{[]}
 use borrow.Author.Needs.{needs}
+use Rattle.fields.specs.Common.{unknown}
 use Rattle.rules.specs.Mail.{afterMail}
-use Rattle.rules.specs.Phases.{second}
+use Rattle.rules.specs.Phases.{reads, hello, second, recipient, head, then}
 use Rattle.rules.specs.declared.Mail.the-variants.{Smtp}
+use Rattle.sessions.specs.Walks.{Walks}
+use Rattle.sessions.specs.declared.reads.Walk.the-variants as walk
 use Rattle.sessions.proofs.Steps.{stop, walked}
 use Rattle.sessions.proofs.smtp.client.Statement.{statement}
 use Rattle.sessions.proofs.smtp.client.Tie as tie
 
--- what `envelope` requires, behind hello Went(second, k)
+-- ---- from the session's start to where each walk has gone
+
+-- from behind `hello`, `envelope` and `multi_rcpt_to` back to the place before
+abbrev start : tie.After-second → tie.Start
+start c = c .before .before .before .before .before
+
+abbrev second-of : tie.After-first → tie.After-second
+second-of c = c .before .before .before .before .before .before .before
+
+abbrev first-of : tie.After-head → tie.After-first
+first-of c = c .before .before .before .before .before .before .before
+
+greeted : (c : tie.After-second) →
+    let a = start c .args in
+    let g = c .second .given .0 in
+    Walks (a .s .now) (a .table .now) (record { count = 0 }) 0 (then [] hello) (λ p. reads second) (walk.Went (g .0) (g .1 .0)) (a .table .now)
+greeted c = (rw (c .second .given .1) at (c .before .before .hello .ensures)) (start c .args .table .now)
+
+enveloped : (c : tie.After-first) →
+    let a = start (second-of c) .args in
+    let g = c .first .given .0 in
+    let table = c .before .before .before .before .envelope .last .1 .1 .0 in
+    Walks (a .s .now) (a .table .now) (record { count = 0 }) 0 (then [] hello) (λ p. reads recipient) (walk.Went (g .0) (g .1 .0)) table
+enveloped c =
+    let called = c .before .before .before .before in
+    walked (greeted (second-of c)) (rw (c .first .given .1) at (called .envelope .ensures))
+
+addressed : (c : tie.After-head) →
+    let a = start (second-of (first-of c)) .args in
+    let g = c .head .given .0 in
+    let table = c .before .before .before .before .multi-rcpt-to .last .1 .1 .0 in
+    Walks (a .s .now) (a .table .now) (record { count = 0 }) 0 (then [] hello) (λ p. reads (head Smtp unknown [])) (walk.Went (g .0) (g .1 .0)) table
+addressed c =
+    let called = c .before .before .before .before in
+    walked (enveloped (first-of c)) (rw (c .head .given .1) at (called .multi-rcpt-to .ensures))
+
+-- ---- the calls
+
 envelope-requires : tie.Need-envelope-requires
-envelope-requires c _ =
-    let second-is = c .before .before .second .given .1 in
-    let after-hello = c .before .before .before .before in
-    let hello-ensures = after-hello .hello .ensures in
-    let start = after-hello .before .before .before in
-    (start .pre, (rw second-is at hello-ensures) (start .args .table .now) .moved .1)
+envelope-requires c κs =
+    let told = c .before .before in
+    (start told .pre, greeted told .moved .1)
 
--- what `multi_rcpt_to` requires, behind hello Went(second, k), envelope Went(first, n)
 multi-rcpt-to-requires : tie.Need-multi-rcpt-to-requires
-multi-rcpt-to-requires c _ =
-    let first-is = c .before .before .first .given .1 in
-    let after-envelope = c .before .before .before .before .before .before in
-    let envelope-ensures = after-envelope .envelope .ensures in
-    let start = after-envelope .before .before .before .before .before .before .before .before in
-    (start .pre, (rw first-is at envelope-ensures) .moved .1)
+multi-rcpt-to-requires c κs =
+    let told = c .before .before in
+    (start (second-of told) .pre, enveloped told .moved .1)
 
--- what `read_mail` requires, behind hello Went(second, k), envelope Went(first, n), multi_rcpt_to Went(head, m)
 read-mail-requires : tie.Need-read-mail-requires
-read-mail-requires c _ =
-    let head-is = c .before .before .head .given .1 in
-    let after-multi-rcpt-to = c .before .before .before .before .before .before in
-    let multi-rcpt-to-ensures = after-multi-rcpt-to .multi-rcpt-to .ensures in
-    let start = after-multi-rcpt-to .before .before .before .before .before .before .before .before .before .before .before .before .before .before .before in
-    (start .pre, (rw head-is at multi-rcpt-to-ensures) .moved .1, tt)
+read-mail-requires c κs =
+    let told = c .before .before in
+    (start (second-of (first-of told)) .pre, addressed told .moved .1, tt)
 
--- a way out, behind hello Stopped(a)
+-- ---- the ways out
+
+-- no HELO
 returns : tie.Need-returns
 returns c =
-    let after-hello = c .before .before .before in
-    let hello-ensures = after-hello .hello .ensures in
-    let start = after-hello .before .before .before in
-    (rw (c .before .a .given .1) at hello-ensures) (start .args .table .now) .is
+    let called = c .before .before .before in
+    (rw (c .before .a .given .1) at (called .hello .ensures)) (called .before .before .before .args .table .now) .is
 
--- a way out, behind hello Went(second, k), envelope Stopped(a)
+-- the envelope stopped
 returns-2 : tie.Need-returns-2
 returns-2 c =
-    let after-envelope = c .before .before .before .before .before in
-    let envelope-ensures = after-envelope .envelope .ensures in
-    let after-second = after-envelope .before .before .before in
-    let second-is = after-second .second .given .1 in
-    let after-hello = after-second .before .before in
-    let hello-ensures = after-hello .hello .ensures in
-    let start = after-hello .before .before .before in
-    walked ((rw second-is at hello-ensures) (start .args .table .now)) (rw (c .before .a2 .given .1) at envelope-ensures) .is
+    let called = c .before .before .before .before .before in
+    walked (greeted (called .before .before .before)) (rw (c .before .a2 .given .1) at (called .envelope .ensures)) .is
 
--- a way out, behind hello Went(second, k), envelope Went(first, n), multi_rcpt_to Stopped(a)
+-- a recipient stopped
 returns-3 : tie.Need-returns-3
 returns-3 c =
-    let after-multi-rcpt-to = c .before .before .before .before .before in
-    let multi-rcpt-to-ensures = after-multi-rcpt-to .multi-rcpt-to .ensures in
-    let after-first = after-multi-rcpt-to .before .before .before in
-    let first-is = after-first .first .given .1 in
-    let after-envelope = after-first .before .before .before .before in
-    let envelope-ensures = after-envelope .envelope .ensures in
-    let after-second = after-envelope .before .before .before in
-    let second-is = after-second .second .given .1 in
-    let after-hello = after-second .before .before in
-    let hello-ensures = after-hello .hello .ensures in
-    let start = after-hello .before .before .before in
-    walked ((rw second-is at hello-ensures) (start .args .table .now)) (walked (rw first-is at envelope-ensures) (rw (c .before .a3 .given .1) at multi-rcpt-to-ensures)) .is
+    let called = c .before .before .before .before .before in
+    walked (enveloped (called .before .before .before)) (rw (c .before .a3 .given .1) at (called .multi-rcpt-to .ensures)) .is
 
--- a way out, behind hello Went(second, k), envelope Went(first, n), multi_rcpt_to Went(head, m), read_mail Stopped(a)
+-- the mail stopped
 returns-4 : tie.Need-returns-4
 returns-4 c =
-    let after-read-mail = c .before .before .before .before .before in
-    let read-mail-ensures = after-read-mail .read-mail .ensures in
-    let after-head = after-read-mail .before .before .before in
-    let head-is = after-head .head .given .1 in
-    let after-multi-rcpt-to = after-head .before .before .before .before in
-    let multi-rcpt-to-ensures = after-multi-rcpt-to .multi-rcpt-to .ensures in
-    let after-first = after-multi-rcpt-to .before .before .before in
-    let first-is = after-first .first .given .1 in
-    let after-envelope = after-first .before .before .before .before in
-    let envelope-ensures = after-envelope .envelope .ensures in
-    let after-second = after-envelope .before .before .before in
-    let second-is = after-second .second .given .1 in
-    let after-hello = after-second .before .before in
-    let hello-ensures = after-hello .hello .ensures in
-    let start = after-hello .before .before .before in
-    walked ((rw second-is at hello-ensures) (start .args .table .now))
-    (walked (rw first-is at envelope-ensures) (walked (rw head-is at multi-rcpt-to-ensures) (rw (c .before .a4 .given .1) at read-mail-ensures))) .is
+    let called = c .before .before .before .before .before in
+    walked (addressed (called .before .before .before)) (rw (c .before .a4 .given .1) at (called .read-mail .ensures)) .is
 
--- a way out, behind hello Went(second, k), envelope Went(first, n), multi_rcpt_to Went(head, m), read_mail Went(to, all), stopped
+-- the mail ended: done
 returns-5 : tie.Need-returns-5
 unfolding afterMail
 returns-5 c =
-    let to-is = c .before .before .to .given .1 in
-    let after-read-mail = c .before .before .before .before .before .before in
-    let read-mail-ensures = after-read-mail .read-mail .ensures in
-    let after-head = after-read-mail .before .before .before in
-    let head-is = after-head .head .given .1 in
-    let after-multi-rcpt-to = after-head .before .before .before .before in
-    let multi-rcpt-to-ensures = after-multi-rcpt-to .multi-rcpt-to .ensures in
-    let after-first = after-multi-rcpt-to .before .before .before in
-    let first-is = after-first .first .given .1 in
-    let after-envelope = after-first .before .before .before .before in
-    let envelope-ensures = after-envelope .envelope .ensures in
-    let after-second = after-envelope .before .before .before in
-    let second-is = after-second .second .given .1 in
-    let after-hello = after-second .before .before in
-    let hello-ensures = after-hello .hello .ensures in
-    let start = after-hello .before .before .before in
-    walked ((rw second-is at hello-ensures) (start .args .table .now))
-    (walked (rw first-is at envelope-ensures) (walked (rw head-is at multi-rcpt-to-ensures)
-    (walked (rw to-is at read-mail-ensures) (stop {to = afterMail Smtp} (c .stopped .ensures))))) .is
+    let called = c .before .before .before .before .before .before in
+    let ended = rw (c .before .before .to .given .1) at (called .read-mail .ensures) in
+    walked (addressed (called .before .before .before)) (walked ended (stop {to = afterMail Smtp} (c .stopped .ensures))) .is
 
 pub client-spec : {M : Type 1} → statement M
 client-spec =
     tie.close
     (tie.spec
-    (λ c _. search needs)
+    (λ c κs. search needs)
     (λ c. search needs)
     (λ c. search needs)
     envelope-requires
@@ -131,7 +114,7 @@ client-spec =
     read-mail-requires
     (λ c. search needs)
     (λ c. search needs)
-    (λ c _. search needs)
+    (λ c κs. search needs)
     returns
     (λ c. search needs)
     returns-2

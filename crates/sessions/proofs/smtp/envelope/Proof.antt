@@ -1,103 +1,61 @@
--- `sessions::smtp::envelope` meets its contract. Assumes nothing.
+-- `sessions::smtp::envelope` meets its contract, by what the second line is. Assumes nothing.
 use mathlib.Core.Path.{sym, _∙_}
 use native.Mathlib.Omega.{arith}
 use borrow.Author.Needs.{needs}
 use Rattle.rules.specs.Phases.{wants, second}
+use Rattle.sessions.specs.Walks.{Cleaned}
 use Rattle.sessions.proofs.SmtpTurns.{second-tls, second-login, second-from, second-other}
 use Rattle.sessions.proofs.Steps.{read-stop}
 use Rattle.sessions.proofs.smtp.envelope.Statement.{statement}
 use Rattle.sessions.proofs.smtp.envelope.Tie as tie
 
--- the difference is not below 0, behind clean_line To(end, e)
-sub-second-line : tie.Need-sub-second-line
-sub-second-line c = (rw (c .before .end .given .1) at (c .before .before .before .clean-line .ensures)) .from
+-- behind `clean_line`'s answer `To(end, e)`: the second line
+line-to : (c : tie.After-end) → Cleaned (c .before .before .before .before .before .args .s .now) (c .before .before .before .before .before .args .at) (c .end .given .0 .0) (c .end .given .0 .1 .0)
+line-to c = rw (c .end .given .1) at (c .before .before .clean-line .ensures)
 
--- the part ends inside, behind clean_line To(end, e)
+-- ---- the clean line lies inside the buffer
+sub-second-line : tie.Need-sub-second-line
+sub-second-line c = line-to (c .before) .from
+
 part-second-line-end : tie.Need-part-second-line-end
 part-second-line-end c =
-    let clean-line-ensures = c .before .before .before .clean-line .ensures in
-    let line = rw (c .before .end .given .1) at clean-line-ensures in omega (arith, line .within, line .ends .within)
+    let line = line-to (c .before) in
+    omega (arith, line .within, line .ends .within)
 
--- what `login` requires, behind clean_line To(end, e), second_line AuthLogin
+-- ---- the calls behind it
 login-requires : tie.Need-login-requires
-login-requires c κs =
-    let after-end = c .before .before .before .before .before .before in
-    let end-is = after-end .end .given .1 in
-    let clean-line-ensures = after-end .before .before .clean-line .ensures in
-    (omega arith, (rw end-is at clean-line-ensures) .ends .within)
+login-requires c κs = (omega arith, line-to (c .before .before .before .before .before .before) .ends .within)
 
--- what `tried` requires, behind clean_line To(end, e), second_line MailFrom
 tried-requires : tie.Need-tried-requires
 tried-requires c κs =
-    let after-end = c .before .before .before .before .before .before in
-    let end-is = after-end .end .given .1 in
-    let clean-line-ensures = after-end .before .before .clean-line .ensures in
-    let line = rw end-is at clean-line-ensures in (omega arith, line .from, line .within, line .ends .within)
+    let line = line-to (c .before .before .before .before .before .before) in
+    (omega arith, line .from, line .within, line .ends .within)
 
--- what `read_to_from` requires, behind clean_line To(end, e), second_line Other
 read-to-from-requires : tie.Need-read-to-from-requires
-read-to-from-requires c κs =
-    let after-end = c .before .before .before .before .before .before in
-    let end-is = after-end .end .given .1 in
-    let clean-line-ensures = after-end .before .before .clean-line .ensures in
-    (omega arith, (rw end-is at clean-line-ensures) .ends .within)
+read-to-from-requires c κs = (omega arith, line-to (c .before .before .before .before .before .before) .ends .within)
 
--- a way out, behind clean_line Stop(o), stopped
+-- ---- the ways out
+
+-- the line is short
 returns : tie.Need-returns
 unfolding wants
-returns c =
-    let o-is = c .before .before .o .given .1 in
-    let clean-line-ensures = c .before .before .before .before .clean-line .ensures in
-    read-stop second (rw o-is at clean-line-ensures) (c .stopped .ensures)
+returns c = read-stop second (rw (c .before .before .o .given .1) at (c .before .before .before .before .clean-line .ensures)) (c .stopped .ensures)
 
--- a way out, behind clean_line To(end, e), second_line StartTls, stopped2
+-- STARTTLS
 returns-2 : tie.Need-returns-2
-returns-2 c =
-    let after-second-line = c .before .before .before in
-    let second-line-ensures = after-second-line .second-line .ensures in
-    let after-end = after-second-line .before .before .before in
-    let end-is = after-end .end .given .1 in
-    let clean-line-ensures = after-end .before .before .clean-line .ensures in
-    second-tls (rw end-is at clean-line-ensures) (sym second-line-ensures ∙ c .before .enum-told .given .1) (c .stopped2 .ensures)
+returns-2 c = second-tls (line-to (c .before .before .before .before .before .before)) (sym (c .before .before .before .second-line .ensures) ∙ c .before .enum-told .given .1) (c .stopped2 .ensures)
 
--- a way out, behind clean_line To(end, e), second_line AuthLogin, login
+-- AUTH LOGIN
 returns-3 : tie.Need-returns-3
-returns-3 c =
-    let login-ensures = c .before .before .login .ensures in
-    let after-enum-told2 = c .before .before .before .before in
-    let enum-told2-is = after-enum-told2 .enum-told2 .given .1 in
-    let after-second-line = after-enum-told2 .before .before in
-    let second-line-ensures = after-second-line .second-line .ensures in
-    let after-end = after-second-line .before .before .before in
-    let end-is = after-end .end .given .1 in
-    let clean-line-ensures = after-end .before .before .clean-line .ensures in
-    second-login (rw end-is at clean-line-ensures) (sym second-line-ensures ∙ enum-told2-is) login-ensures
+returns-3 c = second-login (line-to (c .before .before .before .before .before .before .before .before .before)) (sym (c .before .before .before .before .before .before .second-line .ensures) ∙ c .before .before .before .before .enum-told2 .given .1) (c .before .before .login .ensures)
 
--- a way out, behind clean_line To(end, e), second_line MailFrom, tried
+-- MAIL FROM:
 returns-4 : tie.Need-returns-4
-returns-4 c =
-    let tried-ensures = c .before .before .tried .ensures in
-    let after-enum-told3 = c .before .before .before .before in
-    let enum-told3-is = after-enum-told3 .enum-told3 .given .1 in
-    let after-second-line = after-enum-told3 .before .before in
-    let second-line-ensures = after-second-line .second-line .ensures in
-    let after-end = after-second-line .before .before .before in
-    let end-is = after-end .end .given .1 in
-    let clean-line-ensures = after-end .before .before .clean-line .ensures in
-    second-from (rw end-is at clean-line-ensures) (sym second-line-ensures ∙ enum-told3-is) tried-ensures
+returns-4 c = second-from (line-to (c .before .before .before .before .before .before .before .before .before)) (sym (c .before .before .before .before .before .before .second-line .ensures) ∙ c .before .before .before .before .enum-told3 .given .1) (c .before .before .tried .ensures)
 
--- a way out, behind clean_line To(end, e), second_line Other, read_to_from
+-- anything else
 returns-5 : tie.Need-returns-5
-returns-5 c =
-    let read-to-from-ensures = c .before .before .read-to-from .ensures in
-    let after-enum-told4 = c .before .before .before .before in
-    let enum-told4-is = after-enum-told4 .enum-told4 .given .1 in
-    let after-second-line = after-enum-told4 .before .before in
-    let second-line-ensures = after-second-line .second-line .ensures in
-    let after-end = after-second-line .before .before .before in
-    let end-is = after-end .end .given .1 in
-    let clean-line-ensures = after-end .before .before .clean-line .ensures in
-    second-other (rw end-is at clean-line-ensures) (sym second-line-ensures ∙ enum-told4-is) read-to-from-ensures
+returns-5 c = second-other (line-to (c .before .before .before .before .before .before .before .before .before)) (sym (c .before .before .before .before .before .before .second-line .ensures) ∙ c .before .before .before .before .enum-told4 .given .1) (c .before .before .read-to-from .ensures)
 
 pub envelope-spec : {M : Type 1} → statement M
 envelope-spec =
