@@ -1,139 +1,109 @@
 -- `sessions::body::body_lines` meets its contract. The loop's invariant: what is left at p is what was left. Assumes nothing.
 use mathlib.Core.Path.{_≡_, refl, sym, _∙_}
-use mathlib.Core.List.{[]}
-use Prim.Native.Nat.{_-_}
+use mathlib.Core.List.{List, []}
+use Prim.Native.Nat.{ℕ, _-_}
 use native.Mathlib.Omega.{arith}
 use lib.ListN.{length}
 use borrow.Author.Needs.{needs}
+use Rattle.events.specs.declared.Encoding.{Encoding}
+use Rattle.events.specs.declared.Log.{Log}
+use Rattle.reading.specs.Reading.{aLine}
 use Rattle.rules.specs.Mail.{afterMail}
 use Rattle.rules.specs.Phases.{reads, text, then, wants}
-use Rattle.sessions.specs.Walks.{Walks}
 use Rattle.rules.specs.declared.Mail.{Mail}
 use Rattle.rules.specs.declared.Mail.the-variants.{Smtp}
+use Rattle.sessions.specs.Walks.{Ends, Walks}
 use Rattle.sessions.specs.declared.reads.Walk.the-variants as walk
 use Rattle.sessions.proofs.MailTurns.{read-as, text-dot, text-line}
 use Rattle.sessions.proofs.Steps.{here, read-stop, note-stop, note, walked}
 use Rattle.sessions.proofs.body.body_lines.Statement.{statement}
 use Rattle.sessions.proofs.body.body_lines.Tie as tie
 
+-- lines of a body have been listed from `at` on up to p, whosever mail it is
+record Listed (s t : List ℕ) (log : Log) (at : ℕ) (e : Encoding) (p : ℕ) (n : Log) (u : List ℕ) : Type 0 where
+  walks : (m : Mail) → Walks s t log at (then [] (text m e)) (λ q. reads (text m e)) (walk.Went p n) u
+  long : length u ≡ length t
+
 abbrev Inv-loop : tie.InvT-loop
-Inv-loop s at encoding table₀ p₀ n₀ t12 table p n = ((m : Mail) → Walks s table₀ n₀ at (then [] (text m encoding)) (λ q. reads (text m encoding)) (walk.Went p n) table) ×
-    (length table ≡ length table₀)
+Inv-loop s at encoding table₀ p₀ n₀ t12 table p n = Listed s table₀ n₀ at encoding p n table
 
 abbrev μ-loop : tie.MeasureT-loop
 μ-loop s at encoding table₀ p₀ n₀ t12 table p n = length s - p
 
--- the invariant holds at first
-loop-holds : tie.Need-loop-holds Inv-loop μ-loop
-loop-holds c = (λ m. here _ (c .before .before .pre .1), refl)
+-- behind `line`'s answer `To(e)`: the line from p up to e
+line-to : (c : tie.After-e Inv-loop μ-loop) →
+    let loop = c .before .before .before in
+    Ends aLine (loop .before .before .before .args .s .now) (loop .loop .p) (c .e .given .0 .0)
+line-to c = rw (c .e .given .1) at (c .before .before .line .ensures)
 
--- a way out, in the loop behind line Stop(o), stopped
+loop-holds : tie.Need-loop-holds Inv-loop μ-loop
+loop-holds c = record { walks = λ m. here _ (c .before .before .pre .1); long = refl }
+
+-- the line is short
 returns : tie.Need-returns Inv-loop μ-loop
 unfolding wants
 returns c =
-    let o-is = c .before .before .o .given .1 in
-    let after-line = c .before .before .before .before in
-    let line-ensures = after-line .line .ensures in
-    let loop-inv = after-line .before .loop .inv in
-    λ m. walked (loop-inv .0 m) (read-stop (text m _) (rw o-is at line-ensures) (c .stopped .ensures))
+    let called = c .before .before .before .before in
+    λ m. walked (called .before .loop .inv .walks m) (read-stop (text m _) (rw (c .before .before .o .given .1) at (called .line .ensures)) (c .stopped .ensures))
 
--- the difference is not below 0, in the loop behind line To(e)
+-- ---- the part that is compared with the dot line
 sub-equals : tie.Need-sub-equals Inv-loop μ-loop
-sub-equals c = omega (arith, (rw (c .before .e .given .1) at (c .before .before .before .line .ensures)) .on)
+sub-equals c = omega (arith, line-to (c .before) .on)
 
--- the part ends inside, in the loop behind line To(e)
 part-equals-end : tie.Need-part-equals-end Inv-loop μ-loop
-part-equals-end c = (rw (c .before .e .given .1) at (c .before .before .before .line .ensures)) .within
+part-equals-end c = line-to (c .before) .within
 
--- what `close` requires, in the loop behind line To(e), equals, if1
+-- ---- it is the dot line
 close-requires : tie.Need-close-requires Inv-loop μ-loop
-close-requires c _ =
-    let loop-inv = c .before .before .before .before .before .before .before .before .before .loop .inv in
-    omega (arith, loop-inv .0 Smtp .moved .1)
+close-requires c κs = omega (arith, c .before .before .before .before .before .before .before .before .before .loop .inv .walks Smtp .moved .1)
 
--- a way out, in the loop behind line To(e), equals, if1, close
 returns-2 : tie.Need-returns-2 Inv-loop μ-loop
 unfolding wants
 returns-2 c =
-    let close-ensures = c .before .before .close .ensures in
-    let after-if1 = c .before .before .before .before in
-    let if1-taken = after-if1 .if1 .taken in
-    let after-equals = after-if1 .before in
-    let equals-ensures = after-equals .equals .ensures in
-    let after-e = after-equals .before .before .before .before in
-    let e-is = after-e .e .given .1 in
-    let after-line = after-e .before .before in
-    let line-ensures = after-line .line .ensures in
-    let loop-inv = after-line .before .loop .inv in
-    let line-told = rw e-is at line-ensures in
-    λ m. walked (loop-inv .0 m) (read-as (text m _) line-told (text-dot line-told m _ (sym equals-ensures ∙ if1-taken)) (close-ensures _ (afterMail m) (line-told .within)))
+    let called = c .before .before in
+    let tested = called .before .before .before in
+    let inv = tested .before .before .before .before .before .before .before .loop .inv in
+    let line = line-to (tested .before .before .before .before) in
+    let dot = sym (tested .equals .ensures) ∙ called .before .before .if1 .taken in
+    λ m. walked (inv .walks m) (read-as (text m _) line (text-dot line m _ dot) (called .close .ensures _ (afterMail m) (line .within)))
 
--- the difference is not below 0, in the loop behind line To(e), equals, if1
+-- ---- any other line is listed
 sub-note : tie.Need-sub-note Inv-loop μ-loop
-sub-note c =
-    let after-e = c .before .before .before .before .before .before in
-    let e-is = after-e .e .given .1 in
-    let line-ensures = after-e .before .before .line .ensures in
-    omega (arith, (rw e-is at line-ensures) .on)
+sub-note c = omega (arith, line-to (c .before .before .before .before .before .before) .on)
 
--- what `note` requires, in the loop behind line To(e), equals, if1
 note-requires : tie.Need-note-requires Inv-loop μ-loop
-note-requires c _ =
-    let after-e = c .before .before .before .before .before .before in
-    let e-is = after-e .e .given .1 in
-    let after-line = after-e .before .before in
-    let line-ensures = after-line .line .ensures in
-    let loop-inv = after-line .before .loop .inv in
-    (omega (arith, loop-inv .0 Smtp .moved .1), omega (arith, (rw e-is at line-ensures) .within))
+note-requires c κs = (omega (arith, c .before .before .before .before .before .before .before .before .before .loop .inv .walks Smtp .moved .1), omega (arith, line-to (c .before .before .before .before .before .before) .within))
 
--- a way out, in the loop behind line To(e), equals, if1, note Stopped(a)
+-- the table is full
 returns-3 : tie.Need-returns-3 Inv-loop μ-loop
 unfolding wants
 returns-3 c =
-    let after-note = c .before .before .before .before .before in
-    let note-ensures = after-note .note .ensures in
-    let after-if1 = after-note .before .before in
-    let if1-left = after-if1 .if1 .left in
-    let after-equals = after-if1 .before in
-    let equals-ensures = after-equals .equals .ensures in
-    let after-e = after-equals .before .before .before .before in
-    let e-is = after-e .e .given .1 in
-    let after-line = after-e .before .before in
-    let line-ensures = after-line .line .ensures in
-    let loop-inv = after-line .before .loop .inv in
-    let line-told = rw e-is at line-ensures in
-    λ m. walked (loop-inv .0 m) (read-as (text m _) line-told (text-line line-told m _ (sym equals-ensures ∙ if1-left))
-    (note-stop [] (reads (text m _)) (rw (c .before .a .given .1) at note-ensures)))
+    let called = c .before .before .before .before .before in
+    let tested = called .before .before .before in
+    let inv = tested .before .before .before .before .before .before .before .loop .inv in
+    let line = line-to (tested .before .before .before .before) in
+    let other = sym (tested .equals .ensures) ∙ called .before .before .if1 .left in
+    let full = rw (c .before .a .given .1) at (called .note .ensures) in
+    λ m. walked (inv .walks m) (read-as (text m _) line (text-line line m _ other) (note-stop [] (reads (text m _)) full))
 
--- the measure falls, behind line To(e), equals, if1, note Written(next)
 loop-less : tie.Need-loop-less Inv-loop μ-loop
 loop-less c =
-    let after-e = c .before .before .before .before .before .before .before .before .before .before .before .before in
-    let e-is = after-e .e .given .1 in
-    let line-ensures = after-e .before .before .line .ensures in
-    let line-told = rw e-is at line-ensures in
-    omega (arith, line-told .on, line-told .within)
+    let line = line-to (c .before .before .before .before .before .before .before .before .before .before .before .before) in
+    omega (arith, line .on, line .within)
 
--- the invariant holds after a turn, behind line To(e), equals, if1, note Written(next)
 loop-again : tie.Need-loop-again Inv-loop μ-loop
 unfolding wants
 loop-again c =
-    let after-note = c .before .before .before .before .before in
-    let note-ensures = after-note .note .ensures in
-    let after-if1 = after-note .before .before in
-    let if1-left = after-if1 .if1 .left in
-    let after-equals = after-if1 .before in
-    let equals-ensures = after-equals .equals .ensures in
-    let after-e = after-equals .before .before .before .before in
-    let e-is = after-e .e .given .1 in
-    let after-line = after-e .before .before in
-    let line-ensures = after-line .line .ensures in
-    let loop-inv = after-line .before .loop .inv in
-    let line-told = rw e-is at line-ensures in (
-      λ m. walked (loop-inv .0 m) (read-as (text m _) line-told (text-line line-told m _ (sym equals-ensures ∙ if1-left))
-          (note [] (reads (text m _)) (rw (c .before .next .given .1) at note-ensures) (here _ (line-told .within)))),
-      search needs,
-    )
+    let called = c .before .before .before .before .before in
+    let tested = called .before .before .before in
+    let inv = tested .before .before .before .before .before .before .before .loop .inv in
+    let line = line-to (tested .before .before .before .before) in
+    let other = sym (tested .equals .ensures) ∙ called .before .before .if1 .left in
+    let written = rw (c .before .next .given .1) at (called .note .ensures) in
+    record {
+      walks = λ m. walked (inv .walks m) (read-as (text m _) line (text-line line m _ other) (note [] (reads (text m _)) written (here _ (line .within))));
+      long = called .note .kept .0 ∙ inv .long;
+    }
 
 pub body-lines-spec : {M : Type 1} → statement M
 body-lines-spec =
@@ -142,7 +112,7 @@ body-lines-spec =
     Inv-loop
     μ-loop
     loop-holds
-    (λ c _. c .loop .inv .0 Smtp .moved .1)
+    (λ c κs. c .loop .inv .walks Smtp .moved .1)
     (λ c. search needs)
     (λ c _. search needs)
     (λ c. search needs)

@@ -21,7 +21,9 @@ abbrev loop-of : tie.After-e Inv-loop μ-loop → tie.At-loop Inv-loop μ-loop
 loop-of c = c .before .before .before
 
 -- the line from p up to e
-line-to : (c : tie.After-e Inv-loop μ-loop) → Ends aLine (c .before .before .before .before .before .before .args .h .now) (loop-of c .loop .p) (c .e .given .0 .0)
+line-to : (c : tie.After-e Inv-loop μ-loop) →
+    let loop = loop-of c in
+    Ends aLine (loop .before .before .before .args .h .now) (loop .loop .p) (c .e .given .0 .0)
 line-to c = rw (c .e .given .1) at (c .before .before .line .ensures)
 
 -- ---- the line is short

@@ -47,7 +47,9 @@ by-line c b os q =
     skip-by-line (a .s .now) (a .mail) b os _ (a .outer) _ (c .before .literal-rest .ensures) q (start loop .pre .3) (⊎-elim (λ w h. w .1 .left) (λ w h. absurd (omega arith)) (c .if1 .came))
 
 -- behind `line`'s answer `To(e)`: the line from p up to e
-line-to : (c : tie.After-e Inv-loop μ-loop) → Ends aLine (c .before .before .before .before .before .before .before .args .s .now) (c .before .before .before .before .before .loop .p) (c .e .given .0 .0)
+line-to : (c : tie.After-e Inv-loop μ-loop) →
+    let loop = c .before .before .before .before .before in
+    Ends aLine (start loop .args .s .now) (loop .loop .p) (c .e .given .0 .0)
 line-to c = rw (c .e .given .1) at (c .before .before .line .ensures)
 
 -- ---- the invariant at first

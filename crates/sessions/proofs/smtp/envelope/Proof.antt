@@ -10,7 +10,10 @@ use Rattle.sessions.proofs.smtp.envelope.Statement.{statement}
 use Rattle.sessions.proofs.smtp.envelope.Tie as tie
 
 -- behind `clean_line`'s answer `To(end, e)`: the second line
-line-to : (c : tie.After-end) → Cleaned (c .before .before .before .before .before .args .s .now) (c .before .before .before .before .before .args .at) (c .end .given .0 .0) (c .end .given .0 .1 .0)
+line-to : (c : tie.After-end) →
+    let a = c .before .before .before .before .before .args in
+    let g = c .end .given .0 in
+    Cleaned (a .s .now) (a .at) (g .0) (g .1 .0)
 line-to c = rw (c .end .given .1) at (c .before .before .clean-line .ensures)
 
 -- ---- the clean line lies inside the buffer
@@ -43,19 +46,27 @@ returns c = read-stop second (rw (c .before .before .o .given .1) at (c .before 
 
 -- STARTTLS
 returns-2 : tie.Need-returns-2
-returns-2 c = second-tls (line-to (c .before .before .before .before .before .before)) (sym (c .before .before .before .second-line .ensures) ∙ c .before .enum-told .given .1) (c .stopped2 .ensures)
+returns-2 c =
+    let told = c .before .before .before in
+    second-tls (line-to (told .before .before .before)) (sym (told .second-line .ensures) ∙ c .before .enum-told .given .1) (c .stopped2 .ensures)
 
 -- AUTH LOGIN
 returns-3 : tie.Need-returns-3
-returns-3 c = second-login (line-to (c .before .before .before .before .before .before .before .before .before)) (sym (c .before .before .before .before .before .before .second-line .ensures) ∙ c .before .before .before .before .enum-told2 .given .1) (c .before .before .login .ensures)
+returns-3 c =
+    let told = c .before .before .before .before .before .before in
+    second-login (line-to (told .before .before .before)) (sym (told .second-line .ensures) ∙ c .before .before .before .before .enum-told2 .given .1) (c .before .before .login .ensures)
 
 -- MAIL FROM:
 returns-4 : tie.Need-returns-4
-returns-4 c = second-from (line-to (c .before .before .before .before .before .before .before .before .before)) (sym (c .before .before .before .before .before .before .second-line .ensures) ∙ c .before .before .before .before .enum-told3 .given .1) (c .before .before .tried .ensures)
+returns-4 c =
+    let told = c .before .before .before .before .before .before in
+    second-from (line-to (told .before .before .before)) (sym (told .second-line .ensures) ∙ c .before .before .before .before .enum-told3 .given .1) (c .before .before .tried .ensures)
 
 -- anything else
 returns-5 : tie.Need-returns-5
-returns-5 c = second-other (line-to (c .before .before .before .before .before .before .before .before .before)) (sym (c .before .before .before .before .before .before .second-line .ensures) ∙ c .before .before .before .before .enum-told4 .given .1) (c .before .before .read-to-from .ensures)
+returns-5 c =
+    let told = c .before .before .before .before .before .before in
+    second-other (line-to (told .before .before .before)) (sym (told .second-line .ensures) ∙ c .before .before .before .before .enum-told4 .given .1) (c .before .before .read-to-from .ensures)
 
 pub envelope-spec : {M : Type 1} → statement M
 envelope-spec =

@@ -1,6 +1,5 @@
 -- `sessions::smtp::multi_rcpt_to` meets its contract. The loop's invariant: what is left at p is what was left. Assumes nothing.
-use mathlib.Core.Path.{_≡_, sym, _∙_}
-use mathlib.Core.Bool.{false}
+use mathlib.Core.Path.{sym, _∙_}
 use Prim.Native.Nat.{_-_}
 use native.Mathlib.Omega.{arith}
 use lib.ListN.{length}
@@ -19,7 +18,10 @@ abbrev μ-loop : tie.MeasureT-loop
 μ-loop s at table₀ p₀ n₀ table p n = length s - p
 
 -- behind `clean_line`'s answer `To(end, e)`: the line at p
-line-to : (c : tie.After-end Inv-loop μ-loop) → Cleaned (c .before .before .before .before .before .before .args .s .now) (c .before .before .before .loop .p) (c .end .given .0 .0) (c .end .given .0 .1 .0)
+line-to : (c : tie.After-end Inv-loop μ-loop) →
+    let loop = c .before .before .before in
+    let g = c .end .given .0 in
+    Cleaned (loop .before .before .before .args .s .now) (loop .loop .p) (g .0) (g .1 .0)
 line-to c = rw (c .end .given .1) at (c .before .before .clean-line .ensures)
 
 -- the line is short

@@ -18,7 +18,10 @@ abbrev μ-loop : tie.MeasureT-loop
 μ-loop s at table₀ log p₀ table p = length s - p
 
 -- behind `clean_line`'s answer `To(end, e)`: the line at p
-line-to : (c : tie.After-end Inv-loop μ-loop) → Cleaned (c .before .before .before .before .before .before .args .s .now) (c .before .before .before .loop .p) (c .end .given .0 .0) (c .end .given .0 .1 .0)
+line-to : (c : tie.After-end Inv-loop μ-loop) →
+    let loop = c .before .before .before in
+    let g = c .end .given .0 in
+    Cleaned (loop .before .before .before .args .s .now) (loop .loop .p) (g .0) (g .1 .0)
 line-to c = rw (c .end .given .1) at (c .before .before .clean-line .ensures)
 
 -- the line is short
@@ -45,8 +48,10 @@ tried-requires c κs =
 
 returns-2 : tie.Need-returns-2 Inv-loop μ-loop
 returns-2 c =
-    let line = c .before .before .before .before .before .before .before .before in
-    walked (line .before .before .before .loop .inv .walks) (seeking-found (line-to line) (sym (c .before .before .before .before .before .is-mail-from .ensures) ∙ c .before .before .before .before .if1 .taken) (c .before .before .tried .ensures))
+    let called = c .before .before in
+    let line = called .before .before .before .before .before .before in
+    let found = sym (called .before .before .before .is-mail-from .ensures) ∙ called .before .before .if1 .taken in
+    walked (line .before .before .before .loop .inv .walks) (seeking-found (line-to line) found (called .tried .ensures))
 
 -- ---- it does not: the next one is read
 loop-less : tie.Need-loop-less Inv-loop μ-loop

@@ -21,8 +21,9 @@ abbrev μ-loop : tie.MeasureT-loop
 -- behind `note_line`'s answer `To(end, e, next)`: the line at p, listed
 line-to : (c : tie.After-end Inv-loop μ-loop) →
     let g = c .end .given .0 in
-    let loop = c .before .before .before .before .before .before .loop in
-    LinedTo (c .before .before .before .before .before .before .before .before .before .args .s .now) (loop .table) (loop .n) (loop .p) serverLine (g .0) (g .1 .0) (g .1 .1 .0) (c .before .before .before .before .note-line .last .1 .1 .1 .0)
+    let called = c .before .before .before .before in
+    let loop = called .before .before .loop in
+    LinedTo (called .before .before .before .before .before .args .s .now) (loop .table) (loop .n) (loop .p) serverLine (g .0) (g .1 .0) (g .1 .1 .0) (called .note-line .last .1 .1 .1 .0)
 line-to c = rw (c .end .given .1) at (c .before .before .before .before .note-line .ensures)
 
 note-line-requires : tie.Need-note-line-requires Inv-loop μ-loop
