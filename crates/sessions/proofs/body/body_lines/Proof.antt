@@ -72,7 +72,9 @@ sub-note : tie.Need-sub-note Inv-loop μ-loop
 sub-note c = omega (arith, line-to (c .before .before .before .before .before .before) .on)
 
 note-requires : tie.Need-note-requires Inv-loop μ-loop
-note-requires c κs = (omega (arith, c .before .before .before .before .before .before .before .before .before .loop .inv .walks Smtp .moved .1), omega (arith, line-to (c .before .before .before .before .before .before) .within))
+note-requires c κs =
+    let line = c .before .before .before .before .before .before in
+    (omega (arith, line .before .before .before .loop .inv .walks Smtp .moved .1), omega (arith, line-to line .within))
 
 -- the table is full
 returns-3 : tie.Need-returns-3 Inv-loop μ-loop

@@ -39,8 +39,10 @@ append-ok-requires c κs = (omega arith, line-to (c .before .before .before .bef
 
 returns : tie.Need-returns
 returns c =
-    let asked = c .before .before .before .before .before .before .before in
-    command-append (line-to (asked .before .before .before)) (sym (asked .append .ensures) ∙ c .before .before .before .before .before .before .if1 .taken) (c .before .before .before .before .append-size .ensures) (c .before .before .append-ok .ensures)
+    let sized = c .before .before .before .before in
+    let asked = sized .before .before .before in
+    let append = sym (asked .append .ensures) ∙ sized .before .before .if1 .taken in
+    command-append (line-to (asked .before .before .before)) append (sized .append-size .ensures) (c .before .before .append-ok .ensures)
 
 -- ---- the line stopped
 returns-2 : tie.Need-returns-2
