@@ -1,13 +1,14 @@
 /* The proved mail index: where sender, headers, bodies and parts of a mail session lie.
  *
- * Each function reads one direction of one session, from its first byte, and writes the session's events into a table that the caller lends. It keeps
- * nothing, allocates nothing, copies no byte of the session, and reads and writes nothing but the memory described here. It may be called from any thread.
+ * Each entry reads one direction of one session, from its first byte, and writes the session's events into a table that the caller lends. It
+ * keeps nothing between calls, allocates nothing, copies no byte of the session, and reads and writes nothing but the memory described
+ * here. It may be called from any thread.
  *
  * The caller sees to it that
  * - `bytes` points to `length` bytes that nobody changes during the call, `table` to `numbers` numbers and `answer` to three;
  * - the three do not overlap;
  * - no pointer is null, also where its length is 0, and `table` and `answer` are aligned for their type.
- * Nothing else is asked: any bytes and any length get an answer.
+ * Nothing else is asked: any bytes and any length get an answer, and every number of the table behind the events stays as it was.
  */
 #ifndef MAILINDEX_H
 #define MAILINDEX_H
@@ -19,8 +20,28 @@
 extern "C" {
 #endif
 
-/* An event is four numbers of the table: kind, offset, length, encoding. Offset and length are bytes of the session. The table has room for
- * numbers / 4 events, filled from the front; what stands behind the events stays as it was. As many events as bytes always suffice. */
+/* What this header describes; mailindex_version() says what the library is. */
+#define MAILINDEX_VERSION 1
+
+/* The longest session, in bytes; and how many numbers of the table an event takes. */
+#define MAILINDEX_LIMIT 16777216
+#define MAILINDEX_WIDTH 4
+
+/* An event is four numbers: kind, offset, length, encoding. Offset and length are bytes of the session, from its first byte on.
+ *
+ * Kinds 1 and 3 are whole lines, their CRLF or LF included. Kinds 7 to 10 are lines without it: the LF and one CR before it are left out.
+ * Kinds 11 and 12 are an address without its < and >. Kinds 4 and 5 are a body at once.
+ *
+ * - A header is a run of kind 1; the blank line that ends it is a kind 1 too, of length 2. A folded line is an event of its own.
+ * - A body has a start (2) and a stop (6), both of length 0: the start's offset is the body's first byte, the stop's the byte behind its last.
+ *   Between them stand its lines (3), or its bytes at once (4 in IMAP, 5 in a part), or nothing where it is empty.
+ * - A multipart has no event of its own: its header's lines are listed, then each part's header and body. What stands before the first part and
+ *   behind the last one is not listed, nor are the delimiters. A part that is a multipart itself has its header's lines, and its parts follow.
+ * - Dots that SMTP and POP3 double stay doubled: an offset and a length are the bytes as they were sent.
+ * - Bytes of a user and a password (9, 10) lie where the event says: the table holds places only.
+ *
+ * An SMTP client's session gives kinds 1, 2, 3, 5, 6 and 9 to 12; an SMTP server's 8; a POP3 server's 1, 2, 3, 5, 6 and 8; an IMAP client's 1, 2,
+ * 4, 5, 6 and 7. */
 enum mailindex_kind {
     MAILINDEX_HEADER_LINE = 1,
     MAILINDEX_BODY_START = 2,
@@ -36,7 +57,7 @@ enum mailindex_kind {
     MAILINDEX_RECIPIENT = 12
 };
 
-/* Of kinds 3, 4 and 5; 0 on all others. */
+/* What the header said of a body: on kinds 3, 4 and 5; 0 on all others. */
 enum mailindex_encoding {
     MAILINDEX_NO_ENCODING = 0,
     MAILINDEX_7BIT = 1,
@@ -46,11 +67,17 @@ enum mailindex_encoding {
     MAILINDEX_BASE64 = 5
 };
 
-/* The first number of an answer. In brackets: the place that comes with it. */
+/* The first number of an answer. In brackets: the place that comes with it.
+ *
+ * DONE is the end of an SMTP client's first mail, of an SMTP server's lines (221), or POP3 going over to TLS: what follows is not read.
+ * INCOMPLETE is how a POP3 or an IMAP session normally stands when all of it was read, since it has no last line; the same bytes with more
+ * behind them give the same events first. A session that its parties ended has a line last, of kind 7 or 8 (LOGOUT, the reply to QUIT): where the
+ * last event is of another kind, the session broke off, or it was read on inside a mail that its sender had ended (docs/DIFFERENCES.md, 4).
+ * The others are refusals: reading ended there, and the events so far stay. */
 enum mailindex_result {
     MAILINDEX_DONE = 0,          /* the session ended [first unread byte] */
     MAILINDEX_INCOMPLETE = 1,    /* a read needs bytes beyond the end [where that read began] */
-    MAILINDEX_TOO_LONG = 2,      /* more than 16,777,216 bytes [0] */
+    MAILINDEX_TOO_LONG = 2,      /* more than MAILINDEX_LIMIT bytes; nothing was read [0] */
     MAILINDEX_NO_HELLO = 3,      /* the first SMTP line lacks HELO or EHLO [0] */
     MAILINDEX_STARTTLS = 4,      /* the second SMTP line is STARTTLS [that line] */
     MAILINDEX_NO_RECIPIENT = 5,  /* a line before DATA is no recipient [that line] */
@@ -61,11 +88,21 @@ enum mailindex_result {
     MAILINDEX_TABLE_FULL = 10    /* an event is due and no slot is free [that event's offset] */
 };
 
-/* answer[0] is the result, answer[1] the place, answer[2] the number of events in the table. */
+/* answer[0] is the result, answer[1] the place, answer[2] the number of events in the table.
+ *
+ * The table has a slot for each MAILINDEX_WIDTH numbers, filled from the front. A slot for each byte of the session always suffices:
+ * numbers = MAILINDEX_WIDTH * length. A smaller table will mostly do, a slot for each 32 bytes, say; on TABLE_FULL it holds the session's first
+ * events, and the call is made again with a larger one. */
 void mailindex_smtp_client(const uint8_t *bytes, size_t length, uint32_t *table, size_t numbers, uint64_t *answer);
 void mailindex_smtp_server(const uint8_t *bytes, size_t length, uint32_t *table, size_t numbers, uint64_t *answer);
 void mailindex_pop3_server(const uint8_t *bytes, size_t length, uint32_t *table, size_t numbers, uint64_t *answer);
 void mailindex_imap_client(const uint8_t *bytes, size_t length, uint32_t *table, size_t numbers, uint64_t *answer);
+
+enum mailindex_protocol {
+    MAILINDEX_SMTP = 1,
+    MAILINDEX_POP3 = 2,
+    MAILINDEX_IMAP = 3
+};
 
 enum mailindex_guess {
     MAILINDEX_AS_GIVEN = 0,
@@ -74,10 +111,14 @@ enum mailindex_guess {
     MAILINDEX_OTHER_PROTOCOL = 3
 };
 
-/* Whether the side that is called the client is the client. protocol: 1 SMTP, 2 POP3, 3 IMAP; any other number answers 3. A payload is a side's first; where
- * its mark, client_held or server_held, is 0, it is not held and its bytes are not looked at. The payloads may be the same memory. */
+/* Whether the side that is called the client is the client: by the ports, else by the first bytes that each side sent. A protocol that is none of the
+ * three answers OTHER_PROTOCOL. Where a side's mark, client_held or server_held, is 0, its first payload is not held, and its bytes are not looked
+ * at. The payloads may be the same memory. */
 uint32_t mailindex_direction(uint32_t protocol, uint32_t client_port, uint32_t server_port, uint32_t client_held, const uint8_t *client, size_t client_length,
                              uint32_t server_held, const uint8_t *server, size_t server_length);
+
+/* MAILINDEX_VERSION of the header that goes with the library. */
+uint32_t mailindex_version(void);
 
 #ifdef __cplusplus
 }

@@ -9,6 +9,10 @@ use Rattle.events.specs.Events.{resultNumber}
 use Rattle.events.specs.Table.{Final}
 use Rattle.events.specs.declared.Answer.{Answer}
 
+-- MAILINDEX_VERSION of include/mailindex.h
+abbrev pub version : ℕ
+version = 1
+
 -- result, place, count
 abbrev pub numbersOf : Answer → List ℕ
 numbersOf a = resultNumber (a .result) ∷ a .place ∷ a .count ∷ []

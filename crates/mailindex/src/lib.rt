@@ -2,8 +2,10 @@
 ghost use mathlib.Core.Path.{_≡_};
 ghost use Rattle.direction.specs.Direction.{guess, guessNumber, side};
 ghost use Rattle.rules.specs.Sessions.{smtpClient, smtpServer, pop3Server, imapClient};
-ghost use Rattle.mailindex.specs.Exports.{Answers, numbersOf, held};
+ghost use Rattle.mailindex.specs.Exports.{Answers, numbersOf, held, version};
 use events::Answer;
+
+const VERSION: u32 = 1;
 
 #[no_mangle]
 pub extern "C" fn mailindex_smtp_client(s: &[u8], table: &mut [u32], answer: &mut [u64; 3])
@@ -55,6 +57,14 @@ pub extern "C" fn mailindex_direction(
         server_held != 0,
         server,
     ))
+}
+
+// The header's number of what the library is.
+#[no_mangle]
+pub extern "C" fn mailindex_version() -> u32
+    ensures { λ r. ⌜ r ≡ version ⌝ }
+{
+    VERSION
 }
 
 // Result, place, count.
