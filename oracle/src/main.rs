@@ -3,6 +3,7 @@
 mod case;
 mod choose;
 mod compare;
+mod differences;
 mod direction;
 mod dnsudp;
 mod fields;
@@ -47,7 +48,7 @@ const USAGE: &str = "usage:
   oracle answers FILE OUT                                          a batch file with the oracle's answers
   oracle check FILE                                                replays a file with answers
   oracle show FILE                                                 a file with answers as text
-  oracle selftest                                                  document 01's examples and the findings
+  oracle selftest                                                  document 01's examples, the findings, and docs/DIFFERENCES.md
 CASES: [--seed N] [--count N] [--first N, for generate and compare] [--any-byte | --short]";
 
 /// The words of the command line: flags, flags with a number, and the rest.

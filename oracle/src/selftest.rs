@@ -1,6 +1,7 @@
 //! Document 01's "Sessions to check", and the findings of docs/DIFFERENCES.md, as cases with answers.
 
 use crate::case::{Answer, Case, ENOUGH, Sides, readable};
+use crate::differences;
 use crate::judge::{PlainJudge, SwiftJudge};
 use crate::packet::{Packet, Plain, Swift};
 use crate::reading;
@@ -218,15 +219,29 @@ pub fn run() -> bool {
     for finding in findings() {
         judges.ask(&finding.case, finding.rust, finding.document);
     }
+    let page = include_str!("../../docs/DIFFERENCES.md");
+    let examples = differences::examples(page).unwrap_or_else(|why| {
+        judges.failed += 1;
+        println!("docs/DIFFERENCES.md, {why}");
+        Vec::new()
+    });
+    for example in &examples {
+        let failed = judges.failed;
+        judges.ask(&example.case, &example.listing, &example.listing);
+        if judges.failed > failed {
+            println!("(docs/DIFFERENCES.md, line {})", example.line);
+        }
+    }
     let full = vec![0; 16_777_216];
     judges.ask(&Case::session(b's', &full), "1 0 0\n", "1 0 0\n");
     let over = vec![b'\n'; 16_777_217];
     judges.ask(&Case::session(b's', &over), "2 0 0\n", "2 0 0\n");
     let sound = delimiters::<Plain>() && delimiters::<Swift>() && lower_case_is_safe() && white_space_is_known();
     println!(
-        "{} checks, {} failed; delimiters and characters {}",
+        "{} checks, {} failed, {} inputs of docs/DIFFERENCES.md among them; delimiters and characters {}",
         judges.run,
         judges.failed,
+        examples.len(),
         if sound { "hold" } else { "FAIL" }
     );
     sound && judges.failed == 0

@@ -41,17 +41,26 @@ fn list_all(bytes: &mut [u8], table: &mut [u32], out: &mut [u8])
     while turns > 0 {
         match next(bytes, table, out) {
             Text::Case(n) => {
-                if !io::write_all(STDOUT_FILENO, &out[..n]) {
+                if !written(&out[..n]) {
                     return;
                 }
             }
             Text::Last(n) => {
-                io::write_all(STDOUT_FILENO, &out[..n]);
+                written(&out[..n]);
                 return;
             }
         }
         turns -= 1;
     }
+}
+
+// Whether a text could be written; where not, standard error has the reason.
+fn written(text: &[u8]) -> bool {
+    if !io::write_all(STDOUT_FILENO, text) {
+        os::fail(b"standard output");
+        return false;
+    }
+    true
 }
 
 fn next(bytes: &mut [u8], table: &mut [u32], out: &mut [u8]) -> Text

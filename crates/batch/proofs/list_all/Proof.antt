@@ -14,14 +14,14 @@ abbrev μ-loop : tie.MeasureT-loop
 μ-loop bytes₀ table₀ out₀ turns₀ bytes table out turns = turns
 
 -- the index lies inside, in the loop behind next, bytes, out Case(n)
-slice-reshare-prefix-write-all : tie.Need-slice-reshare-prefix-write-all Inv-loop μ-loop
-slice-reshare-prefix-write-all c =
+slice-reshare-prefix-written : tie.Need-slice-reshare-prefix-written Inv-loop μ-loop
+slice-reshare-prefix-written c =
     let next-ensures = c .before .before .before .before .before .before .before .before .before .next .ensures in
     sized next-ensures (c .before .n .given .1)
 
 -- the index lies inside, in the loop behind next, bytes, out Case(n)
-slice-aggregate-write-all : tie.Need-slice-aggregate-write-all Inv-loop μ-loop
-slice-aggregate-write-all c =
+slice-aggregate-written : tie.Need-slice-aggregate-written Inv-loop μ-loop
+slice-aggregate-written c =
     let n-is = c .before .before .n .given .1 in
     let after-next = c .before .before .before .before .before .before .before .before .before .before in
     let next-last = after-next .next .last in
@@ -29,14 +29,14 @@ slice-aggregate-write-all c =
     sym (length-take-le _ (next-last .1 .1 .0) (sized next-ensures n-is))
 
 -- the index lies inside, in the loop behind next, bytes, out Last(n)
-slice-reshare-prefix-write-all-2 : tie.Need-slice-reshare-prefix-write-all-2 Inv-loop μ-loop
-slice-reshare-prefix-write-all-2 c =
+slice-reshare-prefix-written-2 : tie.Need-slice-reshare-prefix-written-2 Inv-loop μ-loop
+slice-reshare-prefix-written-2 c =
     let next-ensures = c .before .before .before .before .before .before .before .before .before .next .ensures in
     sized next-ensures (c .before .n2 .given .1)
 
 -- the index lies inside, in the loop behind next, bytes, out Last(n)
-slice-aggregate-write-all-2 : tie.Need-slice-aggregate-write-all-2 Inv-loop μ-loop
-slice-aggregate-write-all-2 c =
+slice-aggregate-written-2 : tie.Need-slice-aggregate-written-2 Inv-loop μ-loop
+slice-aggregate-written-2 c =
     let n2-is = c .before .before .n2 .given .1 in
     let after-next = c .before .before .before .before .before .before .before .before .before .before in
     let next-last = after-next .next .last in
@@ -52,16 +52,16 @@ list-all-spec =
     (λ c. search needs)
     (λ c _. search needs)
     (λ c. search needs)
-    slice-reshare-prefix-write-all
-    slice-aggregate-write-all
+    slice-reshare-prefix-written
+    slice-aggregate-written
     (λ c _. search needs)
     (λ c. search needs)
     (λ c. search needs)
     (λ c. search needs)
     (λ c. search needs)
     (λ c. search needs)
-    slice-reshare-prefix-write-all-2
-    slice-aggregate-write-all-2
+    slice-reshare-prefix-written-2
+    slice-aggregate-written-2
     (λ c _. search needs)
     (λ c. search needs)
     (λ c. search needs)
