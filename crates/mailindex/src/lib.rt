@@ -1,8 +1,8 @@
 // The four entries and the direction guess for C and Rust: include/mailindex.h documents each number.
 ghost use mathlib.Core.Path.{_≡_};
-ghost use Rattle.direction.specs.Direction.{guess, guessNumber, side};
+ghost use Rattle.direction.specs.Direction.{guess, guessNumber};
 ghost use Rattle.rules.specs.Sessions.{smtpClient, smtpServer, pop3Server, imapClient};
-ghost use Rattle.mailindex.specs.Exports.{Answers, numbersOf, held, version};
+ghost use Rattle.mailindex.specs.Exports.{Answers, numbersOf, marked, version};
 use events::Answer;
 
 const VERSION: u32 = 1;
@@ -46,7 +46,7 @@ pub extern "C" fn mailindex_direction(
     server_held: u32,
     server: &[u8],
 ) -> u32
-    ensures { λ r. ⌜ r ≡ guessNumber (guess protocol (side «client_port» (held «client_held») (now (client .entry))) (side «server_port» (held «server_held») (now (server .entry)))) ⌝ }
+    ensures { λ r. ⌜ r ≡ guessNumber (guess protocol (marked «client_port» «client_held» (now (client .entry))) (marked «server_port» «server_held» (now (server .entry)))) ⌝ }
 {
     direction::guess_number(direction::dir_confirm(
         protocol,

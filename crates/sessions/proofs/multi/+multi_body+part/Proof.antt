@@ -90,7 +90,8 @@ module _ (t : ℕ) where
       let a = first-entry c .args in
       let b = piece (a .s .now) (a .b) in
       let g = c .first .given .0 in
-      Walks (a .s .now) (a .table .now) (a .log) (a .at) (then [] (preamble (a .mail) b os)) (λ q. reads (head (a .mail) unknown (b ∷ os))) (walk.Went (g .0) (g .1 .0)) (a .table .now)
+      Walks (a .s .now) (a .table .now) (a .log) (a .at) (then [] (preamble (a .mail) b os)) (λ q. reads (head (a .mail) unknown (b ∷ os)))
+      (walk.Went (g .0) (g .1 .0)) (a .table .now)
   opened c os =
       let a = c .before .before .before .before .before .args in
       rw (c .first .given .1) at (c .before .before .preamble .ensures (a .mail) os (a .table .now))
@@ -104,7 +105,8 @@ module _ (t : ℕ) where
       let a = loop-entry c .args in
       let b = piece (a .s .now) (a .b) in
       Within (a .s .now) (a .b) (a .outer) (a .levels) os →
-      Walks (a .s .now) (a .table .now) (a .log) (a .at) (then [] (preamble (a .mail) b os)) (λ q. reads (head (a .mail) unknown (b ∷ os))) (walk.Went (c .loop .p) (c .loop .n)) (c .loop .table)
+      Walks (a .s .now) (a .table .now) (a .log) (a .at) (then [] (preamble (a .mail) b os)) (λ q. reads (head (a .mail) unknown (b ∷ os)))
+      (walk.Went (c .loop .p) (c .loop .n)) (c .loop .table)
   so-far c os f = walked (opened (c .before .before) os) (c .loop .inv .walks os f)
 
   -- behind a part: the table has kept its length

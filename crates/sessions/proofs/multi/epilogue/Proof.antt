@@ -44,7 +44,8 @@ by-line : (c : tie.Joined1 Inv-loop μ-loop) (b : List ℕ) (os : List (List ℕ
 by-line c b os q =
     let loop = c .before .before in
     let a = start loop .args in
-    skip-by-line (a .s .now) (a .mail) b os _ (a .outer) _ (c .before .literal-rest .ensures) q (start loop .pre .3) (⊎-elim (λ w h. w .1 .left) (λ w h. absurd (omega arith)) (c .if1 .came))
+    skip-by-line (a .s .now) (a .mail) b os _ (a .outer) _ (c .before .literal-rest .ensures) q (start loop .pre .3)
+    (⊎-elim (λ w h. w .1 .left) (λ w h. absurd (omega arith)) (c .if1 .came))
 
 -- behind `line`'s answer `To(e)`: the line from p up to e
 line-to : (c : tie.After-e Inv-loop μ-loop) →
@@ -72,7 +73,8 @@ returns c =
     let a = start loop .args in
     let rest = c .before .before .before .literal-rest .ensures in
     λ b os q t. walked (loop .loop .inv .walks b os q t)
-    (rw (skip-by-rest (a .s .now) (a .mail) b os _ (a .outer) _ rest q (start loop .pre .3) (c .before .before .if1 .taken) (c .before .if2 .taken)) (c .skip-rest .ensures _ b os t))
+    (rw (skip-by-rest (a .s .now) (a .mail) b os _ (a .outer) _ rest q (start loop .pre .3) (c .before .before .if1 .taken) (c .before .if2 .taken))
+    (c .skip-rest .ensures _ b os t))
 
 -- ---- a line
 line-requires : tie.Need-line-requires Inv-loop μ-loop

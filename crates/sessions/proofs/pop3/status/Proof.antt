@@ -51,7 +51,8 @@ returns-2 c =
     let again = c .before .before .before .before .before in
     let asked = again .before .before .before in
     let no-tls = sym (asked .stls-answer .ensures) ∙ again .before .before .if1 .left in
-    status-mail (line-to (asked .before .before .before)) no-tls (sym (again .retr-answer .ensures) ∙ c .before .before .before .before .if2 .taken) (c .before .before .read-mail .ensures)
+    let retrieves = sym (again .retr-answer .ensures) ∙ c .before .before .before .before .if2 .taken in
+    status-mail (line-to (asked .before .before .before)) no-tls retrieves (c .before .before .read-mail .ensures)
 
 -- ---- the line stopped
 returns-3 : tie.Need-returns-3

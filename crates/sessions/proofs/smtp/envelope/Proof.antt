@@ -54,19 +54,22 @@ returns-2 c =
 returns-3 : tie.Need-returns-3
 returns-3 c =
     let told = c .before .before .before .before .before .before in
-    second-login (line-to (told .before .before .before)) (sym (told .second-line .ensures) ∙ c .before .before .before .before .enum-told2 .given .1) (c .before .before .login .ensures)
+    let says = sym (told .second-line .ensures) ∙ c .before .before .before .before .enum-told2 .given .1 in
+    second-login (line-to (told .before .before .before)) says (c .before .before .login .ensures)
 
 -- MAIL FROM:
 returns-4 : tie.Need-returns-4
 returns-4 c =
     let told = c .before .before .before .before .before .before in
-    second-from (line-to (told .before .before .before)) (sym (told .second-line .ensures) ∙ c .before .before .before .before .enum-told3 .given .1) (c .before .before .tried .ensures)
+    let says = sym (told .second-line .ensures) ∙ c .before .before .before .before .enum-told3 .given .1 in
+    second-from (line-to (told .before .before .before)) says (c .before .before .tried .ensures)
 
 -- anything else
 returns-5 : tie.Need-returns-5
 returns-5 c =
     let told = c .before .before .before .before .before .before in
-    second-other (line-to (told .before .before .before)) (sym (told .second-line .ensures) ∙ c .before .before .before .before .enum-told4 .given .1) (c .before .before .read-to-from .ensures)
+    let says = sym (told .second-line .ensures) ∙ c .before .before .before .before .enum-told4 .given .1 in
+    second-other (line-to (told .before .before .before)) says (c .before .before .read-to-from .ensures)
 
 pub envelope-spec : {M : Type 1} → statement M
 envelope-spec =

@@ -44,7 +44,8 @@ part-is-data-end c =
 returns-2 : tie.Need-returns-2 Inv-loop μ-loop
 returns-2 c =
     let line = c .before .before .before .before in
-    walked (line .before .before .before .loop .inv .walks) (recipient-data (line-to line) (sym (c .before .is-data .ensures) ∙ c .if1 .taken) (here _ (line-to line .ends .within)))
+    walked (line .before .before .before .loop .inv .walks)
+    (recipient-data (line-to line) (sym (c .before .is-data .ensures) ∙ c .if1 .taken) (here _ (line-to line .ends .within)))
 
 -- ---- any other line is a recipient
 recipient-requires : tie.Need-recipient-requires Inv-loop μ-loop

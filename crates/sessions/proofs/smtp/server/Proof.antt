@@ -23,7 +23,8 @@ line-to : (c : tie.After-end Inv-loop μ-loop) →
     let g = c .end .given .0 in
     let called = c .before .before .before .before in
     let loop = called .before .before .loop in
-    LinedTo (called .before .before .before .before .before .args .s .now) (loop .table) (loop .n) (loop .p) serverLine (g .0) (g .1 .0) (g .1 .1 .0) (called .note-line .last .1 .1 .1 .0)
+    let s = called .before .before .before .before .before .args .s .now in
+    LinedTo s (loop .table) (loop .n) (loop .p) serverLine (g .0) (g .1 .0) (g .1 .1 .0) (called .note-line .last .1 .1 .1 .0)
 line-to c = rw (c .end .given .1) at (c .before .before .before .before .note-line .ensures)
 
 note-line-requires : tie.Need-note-line-requires Inv-loop μ-loop
