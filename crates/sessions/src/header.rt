@@ -24,6 +24,9 @@ use fields::common::Bdry;
 use fields::common::Scan;
 use rules::Mail;
 
+// Eight levels, the outermost being one.
+const INNER_LEVELS: usize = 7;
+
 // The scan, the place behind the blank line in the part that was handed over; or the session's end.
 pub enum Headed {
     Went(Scan, usize, Log),
@@ -44,7 +47,7 @@ pub fn read_mail(s: &[u8], at: usize, mail: Mail, table: &mut [u32], log: Log) -
                 Bdry::Unsupplied => plain_mail(s, to, mail, encoding, table, next),
                 Bdry::Of(o, len) => {
                     let b = Boundary { at: at + o, len };
-                    multi_body(s, to, b, b, 7, mail, table, next)
+                    multi_body(s, to, b, b, INNER_LEVELS, mail, table, next)
                 }
             }
         }
