@@ -12,16 +12,17 @@ use Rattle.events.specs.declared.Answer.{Answer}
 use Rattle.events.specs.declared.Encoding.{Encoding}
 use Rattle.events.specs.declared.Encoding.the-variants.{Unsaid}
 use Rattle.events.specs.declared.Log.{Log}
+use Rattle.events.specs.declared.Outcome.{Outcome}
 use Rattle.events.specs.declared.Outcome.the-variants.{BadDelimiter}
 use Rattle.fields.specs.Common.{part, unknown, dashBdry}
 use Rattle.reading.specs.Bytes.{startsWith, same}
-use Rattle.reading.specs.Reading.{Need, crlf}
+use Rattle.reading.specs.Reading.{Need, two, crlf}
 use Rattle.rules.specs.Machine.{Reaction}
 use Rattle.rules.specs.Mail.{dotLine, hyphens, afterMail, rest, literalBody, held, whole, contentLength, outermost, byRest, skip, lastLine, popped, onText, onLiteral}
 use Rattle.rules.specs.Mail.{onOpened, onContent, onBetween, onSkipping, onResting}
-use Rattle.rules.specs.Phases.{Phase, State, reads, wants, then, stop, closing, head, text, literal, opened, content, between, skipping, resting}
+use Rattle.rules.specs.Phases.{Phase, State, reads, wants, then, closing, head, text, literal, opened, content, between, skipping, resting}
 use Rattle.rules.specs.Sessions.{reacts}
-use Rattle.sessions.specs.Walks.{Ends, Stopped, Pair, NoPair, Notes, goes, Walks, piece, Lies, Begun}
+use Rattle.sessions.specs.Walks.{Ends, Stops, Stopped, Pair, NoPair, Notes, goes, Walks, piece, Lies, Begun}
 use Rattle.sessions.specs.declared.reads.Boundary.{Boundary}
 use Rattle.rules.specs.declared.Mail.{Mail}
 use Rattle.rules.specs.declared.Mail.the-variants.{Smtp, Pop3, Imap}
@@ -76,31 +77,42 @@ module _ {nd : Need} {s : List ℕ} {at e : ℕ} (d : Ends nd s at e) where
   unfolding reacts onResting
   resting-all m b os n = rw behind
 
--- ---- two bytes
-module _ {s : List ℕ} {at : ℕ} where
-  pub opened-crlf : (m : Mail) (b : List ℕ) (os : List (List ℕ)) → Pair s at crlf → reacts (opened m b os) at (part s at (at + 2)) ≡ then [] (head m unknown (b ∷ os))
-  unfolding reacts onOpened same startsWith
-  opened-crlf m b os p = rw (p .is)
+-- ---- the two bytes behind a delimiter
+module _ {s t : List ℕ} {log : Log} {at : ℕ} (m : Mail) (b : List ℕ) (os : List (List ℕ)) where
+  -- behind a preamble: CRLF opens the first part, anything else is refused
+  pub opened-crlf : Pair s at crlf → Walks s t log at (then [] (opened m b os)) (λ q. reads (head m unknown (b ∷ os))) (walk.Went (at + 2) log) t
+  unfolding reacts onOpened same startsWith wants
+  opened-crlf p = steps.read (opened m b os) (p .ends) (rw (p .is) (steps.here (at + 2) (p .ends .within)))
 
-  pub opened-hyphens : (m : Mail) (b : List ℕ) (os : List (List ℕ)) → Pair s at hyphens → reacts (opened m b os) at (part s at (at + 2)) ≡ stop [] BadDelimiter at
-  unfolding reacts onOpened same startsWith
-  opened-hyphens m b os p = rw (p .is)
+  -- behind a content: CRLF opens the next part, two hyphens close the multipart, anything else is refused
+  pub between-crlf : Pair s at crlf → Walks s t log at (then [] (between m b os)) (λ q. reads (head m unknown (b ∷ os))) (walk.Went (at + 2) log) t
+  unfolding reacts onBetween same startsWith wants
+  between-crlf p = steps.read (between m b os) (p .ends) (rw (p .is) (steps.here (at + 2) (p .ends .within)))
 
-  pub opened-other : (m : Mail) (b : List ℕ) (os : List (List ℕ)) → NoPair s at → reacts (opened m b os) at (part s at (at + 2)) ≡ stop [] BadDelimiter at
-  unfolding reacts onOpened
-  opened-other m b os p = rw (p .no-crlf)
+  pub between-hyphens : Pair s at hyphens → Walks s t log at (then [] (between m b os)) (λ q. skip m b os q) (walk.Went (at + 2) log) t
+  unfolding reacts onBetween same startsWith wants
+  between-hyphens p = steps.read (between m b os) (p .ends) (rw (p .is) (steps.here (at + 2) (p .ends .within)))
 
-  pub between-crlf : (m : Mail) (b : List ℕ) (os : List (List ℕ)) → Pair s at crlf → reacts (between m b os) at (part s at (at + 2)) ≡ then [] (head m unknown (b ∷ os))
-  unfolding reacts onBetween same startsWith
-  between-crlf m b os p = rw (p .is)
+  module _ {to : ℕ → State} {a : Answer} where
+    pub opened-hyphens : Pair s at hyphens → Stopped BadDelimiter at log a → Walks s t log at (then [] (opened m b os)) to (walk.Stopped a) t
+    unfolding reacts onOpened same startsWith wants
+    opened-hyphens p w = steps.read (opened m b os) (p .ends) (rw (p .is) (steps.stop w))
 
-  pub between-hyphens : (m : Mail) (b : List ℕ) (os : List (List ℕ)) → Pair s at hyphens → reacts (between m b os) at (part s at (at + 2)) ≡ goes (skip m b os (at + 2))
-  unfolding reacts onBetween same startsWith
-  between-hyphens m b os p = rw (p .is)
+    pub opened-other : NoPair s at → Stopped BadDelimiter at log a → Walks s t log at (then [] (opened m b os)) to (walk.Stopped a) t
+    unfolding reacts onOpened wants
+    opened-other p w = steps.read (opened m b os) (p .ends) (rw (p .no-crlf) (steps.stop w))
 
-  pub between-other : (m : Mail) (b : List ℕ) (os : List (List ℕ)) → NoPair s at → reacts (between m b os) at (part s at (at + 2)) ≡ stop [] BadDelimiter at
-  unfolding reacts onBetween
-  between-other m b os p = rw (p .no-crlf, p .no-hyphens)
+    pub opened-short : {o : Outcome} → Stops two s at o → Stopped o at log a → Walks s t log at (then [] (opened m b os)) to (walk.Stopped a) t
+    unfolding wants
+    opened-short d w = steps.read-stop (opened m b os) d w
+
+    pub between-other : NoPair s at → Stopped BadDelimiter at log a → Walks s t log at (then [] (between m b os)) to (walk.Stopped a) t
+    unfolding reacts onBetween wants
+    between-other p w = steps.read (between m b os) (p .ends) (rw (p .no-crlf, p .no-hyphens) (steps.stop w))
+
+    pub between-short : {o : Outcome} → Stops two s at o → Stopped o at log a → Walks s t log at (then [] (between m b os)) to (walk.Stopped a) t
+    unfolding wants
+    between-short d w = steps.read-stop (between m b os) d w
 
 -- ---- bodies at once
 pub whole-none : (kind : ℕ) (c : Encoding) (at end : ℕ) → at ≡ end → whole kind c at (end - at) ≡ ev bodyStop end 0 Unsaid ∷ []
@@ -121,16 +133,29 @@ whole-some kind c at end h n =
     let k : at + (end - at) ≡ end = omega arith in
     rw (held-some kind c at (end - at) (omega arith), k)
 
--- ---- a literal's rest
-pub literal-none : (c : Encoding) (at n : ℕ) → n ≡ 0 → literalBody c at n ≡ then (ev bodyStart at 0 Unsaid ∷ ev bodyStop at 0 Unsaid ∷ []) closing
-unfolding literalBody
-literal-none c at n h = rw h
+-- ---- a literal's body: its start, then what is left of the literal
+module _ {s t : List ℕ} {log : Log} {to : ℕ → State} {at : ℕ} {u : List ℕ} (c : Encoding) where
+  -- the start finds no slot
+  pub literal-full : {a : Answer} (n : ℕ) → Notes t log (ev bodyStart at 0 Unsaid) (noted.Stopped a) u → Walks s t log at (literalBody c at n) to (walk.Stopped a) u
+  unfolding literalBody
+  literal-full zero p = steps.note-stop (ev bodyStop at 0 Unsaid ∷ []) (reads closing) p
+  literal-full (suc n) p = steps.note-stop [] (reads (literal c n)) p
 
-pub literal-some : (c : Encoding) (at n : ℕ) → 0 < n → literalBody c at n ≡ then (ev bodyStart at 0 Unsaid ∷ []) (literal c (n - 1))
-unfolding literalBody
-literal-some c at zero h = absurd (omega arith)
-literal-some c at (suc n) h = let k : suc n - 1 ≡ n = omega arith in rw k
+  module _ {next : Log} {r : Walk} {v : List ℕ} where
+    -- nothing is left: its stop, and the literal is closed
+    pub literal-none : (n : ℕ) → n ≡ 0 → Notes t log (ev bodyStart at 0 Unsaid) (noted.Written next) u
+        → Walks s u next at (then (ev bodyStop at 0 Unsaid ∷ []) closing) to r v → Walks s t log at (literalBody c at n) to r v
+    unfolding literalBody
+    literal-none n h p w = rw h (steps.note (ev bodyStop at 0 Unsaid ∷ []) (reads closing) p w)
 
+    -- something is: so many bytes are asked for
+    pub literal-some : (n : ℕ) → 0 < n → Notes t log (ev bodyStart at 0 Unsaid) (noted.Written next) u
+        → Walks s u next at (then [] (literal c (n - 1))) to r v → Walks s t log at (literalBody c at n) to r v
+    unfolding literalBody
+    literal-some zero h p w = absurd (omega arith)
+    literal-some (suc n) h p w = let k : suc n - 1 ≡ n = omega arith in steps.note [] (reads (literal c n)) p (rw k at w)
+
+-- ---- which read follows behind a close
 rest-if : (m : Mail) (b : List ℕ) (os : List (List ℕ)) (n : ℕ) → 0 < n → n < length (outermost b os) → byRest m b os n ≡ reads (resting m b os (n - 1))
 unfolding byRest
 rest-if m b os zero h g = absurd (omega arith)
@@ -149,13 +174,6 @@ module _ (m : Mail) (b : List ℕ) (os : List (List ℕ)) (at : ℕ) where
   pub skip-line : (0 < rest m at → length (outermost b os) ≤ rest m at) → skip m b os at ≡ reads (skipping m b os)
   unfolding skip
   skip-line h = line-if m b os (rest m at) h
-
--- a literal's body begins with its start, whatever is left
-pub literal-full : {s t : List ℕ} {log : Log} {to : ℕ → State} {at : ℕ} {a : Answer} {u : List ℕ} (c : Encoding) (n : ℕ)
-    → Notes t log (ev bodyStart at 0 Unsaid) (noted.Stopped a) u → Walks s t log at (literalBody c at n) to (walk.Stopped a) u
-unfolding literalBody
-literal-full {at = at} c zero p = steps.note-stop (ev bodyStop at 0 Unsaid ∷ []) (reads closing) p
-literal-full c (suc n) p = steps.note-stop [] (reads (literal c n)) p
 
 -- a dash line is the last, whose ever the mail is
 pub last-dash : (m : Mail) (o l : List ℕ) → dashBdry o l ≡ true → true ≡ lastLine m o l

@@ -9,19 +9,20 @@ use lib.ListN.{length, drop}
 use Rattle.events.specs.Events.{serverLine, clientLine}
 use Rattle.events.specs.declared.Answer.{Answer}
 use Rattle.events.specs.declared.Log.{Log}
+use Rattle.events.specs.declared.Outcome.{Outcome}
 use Rattle.events.specs.declared.Outcome.the-variants.{Done, OpenLiteral}
 use Rattle.fields.specs.Common.{part, unknown}
 use Rattle.fields.specs.Imap.{isAppend, appendSize, holdsColon}
 use Rattle.fields.specs.Pop3.{stlsAnswer, retrAnswer}
 use Rattle.reading.proofs.Places.{by-test}
 use Rattle.reading.specs.Bytes.{startsWith, same}
-use Rattle.reading.specs.Reading.{aLine, crlf, clean}
+use Rattle.reading.specs.Reading.{aLine, two, crlf, clean}
 use Rattle.rules.specs.Imap.{onCommand, onOffered, onClosing}
 use Rattle.rules.specs.Mail.{hyphens}
-use Rattle.rules.specs.Phases.{State, reads, wants, then, stop, status, command, offered, closing, head}
+use Rattle.rules.specs.Phases.{State, reads, wants, then, status, command, offered, closing, head}
 use Rattle.rules.specs.Pop3.{onStatus}
 use Rattle.rules.specs.Sessions.{reacts, session, settle}
-use Rattle.sessions.specs.Walks.{Stopped, Ends, Pair, NoPair, Walks, Lists, LinedTo, LinedStop, Moved, Farther, Turns}
+use Rattle.sessions.specs.Walks.{Stopped, Ends, Stops, Pair, NoPair, Walks, Lists, LinedTo, LinedStop, Moved, Farther, Turns}
 use Rattle.rules.specs.declared.Mail.the-variants.{Pop3, Imap}
 use Rattle.sessions.specs.declared.reads.Walk.{Walk}
 use Rattle.sessions.specs.declared.reads.Walk.the-variants as walk
@@ -101,16 +102,21 @@ module _ {s : List ℕ} {at e : ℕ} (d : Ends aLine s at e) (size : ℕ) where
       → Walks s t log at (then [] (offered size)) (λ p. reads command) (walk.Went at log) t
   offered-none {t} {log} h g = record { moved = (omega arith, g); is = ap (settle t (log .count)) (sym (offered-not h)) }
 
--- ---- the two bytes behind a literal
-module _ {s : List ℕ} {at : ℕ} where
-  pub closing-crlf : Pair s at crlf → reacts closing at (part s at (at + 2)) ≡ then [] command
-  unfolding reacts onClosing same startsWith
-  closing-crlf p = rw (p .is)
+-- ---- the two bytes behind a literal: CRLF, anything else is refused
+module _ {s t : List ℕ} {log : Log} {at : ℕ} where
+  pub closing-crlf : Pair s at crlf → Walks s t log at (then [] closing) (λ p. reads command) (walk.Went (at + 2) log) t
+  unfolding reacts onClosing same startsWith wants
+  closing-crlf p = steps.read closing (p .ends) (rw (p .is) (steps.here (at + 2) (p .ends .within)))
 
-  pub closing-hyphens : Pair s at hyphens → reacts closing at (part s at (at + 2)) ≡ stop [] OpenLiteral at
-  unfolding reacts onClosing same startsWith
-  closing-hyphens p = rw (p .is)
+  module _ {to : ℕ → State} {a : Answer} where
+    pub closing-hyphens : Pair s at hyphens → Stopped OpenLiteral at log a → Walks s t log at (then [] closing) to (walk.Stopped a) t
+    unfolding reacts onClosing same startsWith wants
+    closing-hyphens p w = steps.read closing (p .ends) (rw (p .is) (steps.stop w))
 
-  pub closing-other : NoPair s at → reacts closing at (part s at (at + 2)) ≡ stop [] OpenLiteral at
-  unfolding reacts onClosing
-  closing-other p = rw (p .no-crlf)
+    pub closing-other : NoPair s at → Stopped OpenLiteral at log a → Walks s t log at (then [] closing) to (walk.Stopped a) t
+    unfolding reacts onClosing wants
+    closing-other p w = steps.read closing (p .ends) (rw (p .no-crlf) (steps.stop w))
+
+    pub closing-short : {o : Outcome} → Stops two s at o → Stopped o at log a → Walks s t log at (then [] closing) to (walk.Stopped a) t
+    unfolding wants
+    closing-short d w = steps.read-stop closing d w

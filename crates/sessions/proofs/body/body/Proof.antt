@@ -1,4 +1,4 @@
--- `sessions::body::body` meets its contract. Assumes nothing.
+-- `sessions::body::body` meets its contract: the body's start, then its lines. Assumes nothing.
 use mathlib.Core.List.{[]}
 use native.Mathlib.Omega.{arith}
 use borrow.Author.Needs.{needs}
@@ -7,29 +7,27 @@ use Rattle.sessions.proofs.Steps.{note-stop, note}
 use Rattle.sessions.proofs.body.body.Statement.{statement}
 use Rattle.sessions.proofs.body.body.Tie as tie
 
--- a way out, behind note Stopped(a)
+-- the body's start finds no slot
 returns : tie.Need-returns
 returns c =
-    let note-ensures = c .before .before .before .before .before .note .ensures in
-    λ m. note-stop [] (reads (text m _)) (rw (c .before .a .given .1) at note-ensures)
+    let called = c .before .before .before .before .before in
+    λ m. note-stop [] (reads (text m _)) (rw (c .before .a .given .1) at (called .note .ensures))
 
--- a way out, behind note Written(next), body_lines
+-- it is listed, and the lines follow
 returns-2 : tie.Need-returns-2
 returns-2 c =
-    let body-lines-ensures = c .before .before .body-lines .ensures in
-    let after-next = c .before .before .before .before .before in
-    let next-is = after-next .next .given .1 in
-    let note-ensures = after-next .before .before .before .before .note .ensures in
-    λ m. note [] (reads (text m _)) (rw next-is at note-ensures) (body-lines-ensures m)
+    let told = c .before .before .before .before .before in
+    let started = rw (told .next .given .1) at (told .before .before .before .before .note .ensures) in
+    λ m. note [] (reads (text m _)) started (c .before .before .body-lines .ensures m)
 
 pub body-spec : {M : Type 1} → statement M
 body-spec =
     tie.close
     (tie.spec
-    (λ c _. (omega arith, omega arith))
+    (λ c κs. (omega arith, omega arith))
     (λ c. search needs)
     (λ c. search needs)
-    (λ c _. search needs)
+    (λ c κs. search needs)
     (λ c. search needs)
     returns
     (λ c. search needs)

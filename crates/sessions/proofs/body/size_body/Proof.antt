@@ -1,96 +1,84 @@
--- `sessions::body::size_body` meets its contract. Assumes nothing.
-use mathlib.Core.List.{[], _∷_}
+-- `sessions::body::size_body` meets its contract, by what is left of the literal. Assumes nothing.
 use Prim.Native.Nat.{_-_}
 use native.Mathlib.Omega.{arith}
 use borrow.Author.Needs.{needs}
-use Rattle.events.specs.Events.{ev, bodyStop}
+use Rattle.events.specs.Events.{ev, bodyStart}
 use Rattle.events.specs.declared.Encoding.the-variants.{Unsaid}
+use Rattle.reading.specs.Reading.{bytes}
 use Rattle.rules.specs.Phases.{reads, closing, literal, wants}
+use Rattle.sessions.specs.Walks.{Ends, Notes}
+use Rattle.sessions.specs.declared.reads.Noted.the-variants as noted
 use Rattle.sessions.proofs.MailTurns.{read-as, literal-none, literal-some, literal-all, literal-full}
-use Rattle.sessions.proofs.Steps.{read-stop, note}
+use Rattle.sessions.proofs.Steps.{read-stop}
 use Rattle.sessions.proofs.body.size_body.Statement.{statement}
 use Rattle.sessions.proofs.body.size_body.Tie as tie
 
--- a way out, behind note Written(next), if1, close
+-- behind `note`'s answer `Written(next)`: the function's start
+abbrev start : tie.After-next → tie.Start
+start c = c .before .before .before .before .before .before .before .before
+
+-- there: the body's start is listed
+started : (c : tie.After-next) →
+    let a = start c .args in
+    Notes (a .table .now) (a .log) (ev bodyStart (a .at) 0 Unsaid) (noted.Written (c .next .given .0 .0)) (c .before .before .before .before .note .last .0)
+started c = rw (c .next .given .1) at (c .before .before .before .before .note .ensures)
+
+-- behind `sized`'s answer `To(e)`: the literal ends at e
+bytes-to : (c : tie.After-e) →
+    let a = c .before .before .before .before .before .before .before .before .before .before .before .before .before .args in
+    Ends (bytes (a .size - 1)) (a .s .now) (a .at) (c .e .given .0 .0)
+bytes-to c = rw (c .e .given .1) at (c .before .before .sized .ensures)
+
+-- ---- the body's start finds no slot
+returns-2 : tie.Need-returns-2
+returns-2 c = literal-full _ _ (rw (c .before .a .given .1) at (c .before .before .before .before .before .note .ensures))
+
+-- ---- nothing is left of the literal
 returns : tie.Need-returns
 returns c =
-    let close-ensures = c .before .before .close .ensures in
-    let after-if1 = c .before .before .before .before in
-    let if1-taken = after-if1 .if1 .taken in
-    let after-next = after-if1 .before .before in
-    let next-is = after-next .next .given .1 in
-    let after-note = after-next .before .before .before .before in
-    let note-ensures = after-note .note .ensures in
-    let start = after-note .before .before .before .before in
-    let at = start .args .at in
-    rw (literal-none (start .args .encoding) at (start .args .size) if1-taken)
-    (note (ev bodyStop at 0 Unsaid ∷ []) (reads closing) (rw next-is at note-ensures) (close-ensures (start .args .s .now) (λ p. reads closing) (start .pre .1)))
+    let told = c .before .before .before .before .before .before in
+    let a = start told .args in
+    literal-none _ (a .size) (c .before .before .before .before .if1 .taken) (started told) (c .before .before .close .ensures (a .s .now) (λ p. reads closing) (start told .pre .1))
 
--- what `hold` requires, behind note Written(next), if1, sized To(e)
-hold-requires : tie.Need-hold-requires
-hold-requires c _ =
-    let e-is = c .before .before .e .given .1 in
-    let sized-ensures = c .before .before .before .before .sized .ensures in
-    let sized-told = rw e-is at sized-ensures in
-    (omega (arith, sized-told .on), omega (arith, sized-told .within))
-
--- a way out, behind note Stopped(a)
-returns-2 : tie.Need-returns-2
-returns-2 c =
-    let note-ensures = c .before .before .before .before .before .note .ensures in
-    literal-full _ _ (rw (c .before .a .given .1) at note-ensures)
-
--- a way out, behind note Written(next), if1, sized Stop(o), stopped
+-- ---- something is: the bytes are not there
 returns-3 : tie.Need-returns-3
 unfolding wants
 returns-3 c =
-    let o-is = c .before .before .o .given .1 in
-    let after-sized = c .before .before .before .before in
-    let sized-ensures = after-sized .sized .ensures in
-    let after-next = after-sized .before .before .before in
-    let next-is = after-next .next .given .1 in
-    let after-note = after-next .before .before .before .before in
-    let note-ensures = after-note .note .ensures in
-    let start = after-note .before .before .before .before in
-    let encoding = start .args .encoding in
-    let size = start .args .size in
-    rw (literal-some encoding (start .args .at) size (omega arith))
-    (note [] (reads (literal _ _)) (rw next-is at note-ensures) (read-stop (literal encoding (size - 1)) (rw o-is at sized-ensures) (c .stopped .ensures)))
+    let called = c .before .before .before .before in
+    let told = called .before .before .before in
+    let a = start told .args in
+    let short = rw (c .before .before .o .given .1) at (called .sized .ensures) in
+    literal-some _ (a .size) (omega arith) (started told) (read-stop (literal (a .encoding) (a .size - 1)) short (c .stopped .ensures))
 
--- a way out, behind note Written(next), if1, sized To(e), hold
+-- ---- or they are
+hold-requires : tie.Need-hold-requires
+hold-requires c κs =
+    let body = bytes-to (c .before .before) in
+    (omega (arith, body .on), omega (arith, body .within))
+
 returns-4 : tie.Need-returns-4
 unfolding wants
 returns-4 c =
-    let hold-ensures = c .before .before .hold .ensures in
-    let after-e = c .before .before .before .before .before in
-    let e-is = after-e .e .given .1 in
-    let after-sized = after-e .before .before in
-    let sized-ensures = after-sized .sized .ensures in
-    let after-next = after-sized .before .before .before in
-    let next-is = after-next .next .given .1 in
-    let after-note = after-next .before .before .before .before in
-    let note-ensures = after-note .note .ensures in
-    let start = after-note .before .before .before .before in
-    let encoding = start .args .encoding in
-    let size = start .args .size in
-    let sized-told = rw e-is at sized-ensures in
-    rw (literal-some encoding (start .args .at) size (omega arith))
-    (note [] (reads (literal _ _)) (rw next-is at note-ensures)
-    (read-as (literal encoding (size - 1)) sized-told (literal-all sized-told _ _) (hold-ensures (start .args .s .now) (λ p. reads closing) (sized-told .within))))
+    let taken = c .before .before .before .before .before in
+    let told = taken .before .before .before .before .before in
+    let a = start told .args in
+    let body = bytes-to taken in
+    literal-some _ (a .size) (omega arith) (started told)
+    (read-as (literal (a .encoding) (a .size - 1)) body (literal-all body _ _) (c .before .before .hold .ensures (a .s .now) (λ p. reads closing) (body .within)))
 
 pub size-body-spec : {M : Type 1} → statement M
 size-body-spec =
     tie.close
     (tie.spec
-    (λ c _. (omega arith, omega arith))
+    (λ c κs. (omega arith, omega arith))
     (λ c. search needs)
     (λ c. search needs)
-    (λ c _. search needs)
+    (λ c κs. search needs)
     (λ c. search needs)
     returns
-    (λ c _. search needs)
+    (λ c κs. search needs)
     (λ c. search needs)
-    (λ c _. search needs)
+    (λ c κs. search needs)
     (λ c. search needs)
     hold-requires
     (λ c. search needs)

@@ -1,88 +1,76 @@
--- `sessions::imap::append_mail` meets its contract. Assumes nothing.
+-- `sessions::imap::append_mail` meets its contract, by what stands behind the literal. Assumes nothing.
+use mathlib.Core.List.{[]}
 use native.Mathlib.Nat.{le-refl}
 use native.Mathlib.Omega.{arith}
 use borrow.Author.Needs.{needs}
+use Rattle.fields.specs.Common.{unknown}
+use Rattle.reading.specs.Reading.{crlf}
 use Rattle.rules.specs.Mail.{afterMail}
-use Rattle.rules.specs.Phases.{closing, wants}
-use Rattle.sessions.proofs.MailTurns.{read-as}
-use Rattle.sessions.proofs.StatusTurns.{closing-crlf, closing-hyphens, closing-other}
-use Rattle.sessions.proofs.Steps.{here, stop, read-stop, walked, stopped}
+use Rattle.rules.specs.Phases.{reads, closing, head, then}
+use Rattle.rules.specs.declared.Mail.the-variants.{Imap}
+use Rattle.sessions.specs.Walks.{Pair, Walks}
+use Rattle.sessions.specs.declared.reads.Walk.the-variants as walk
+use Rattle.sessions.proofs.StatusTurns.{closing-crlf, closing-hyphens, closing-other, closing-short}
+use Rattle.sessions.proofs.Steps.{walked, stopped}
 use Rattle.sessions.proofs.imap.append_mail.Statement.{statement}
 use Rattle.sessions.proofs.imap.append_mail.Tie as tie
 
--- what `read_mail` requires
+-- behind `read_mail`'s answer `Went(to, n)`: the function's start
+abbrev start : tie.After-to → tie.Start
+start c = c .before .before .before .before .before .before .before .before
+
+-- there: the mail has been walked, and its literal is to be closed
+went : (c : tie.After-to) →
+    let a = start c .args in
+    let g = c .to .given .0 in
+    let table = c .before .before .before .before .read-mail .last .1 .1 .1 .0 in
+    Walks (a .s .now) (a .table .now) (a .log) (a .at) (then [] (head (Imap (a .size) (a .at)) unknown [])) (λ q. reads closing) (walk.Went (g .0) (g .1 .0)) table
+unfolding afterMail
+went c = rw (c .to .given .1) at (c .before .before .before .before .read-mail .ensures)
+
+-- ---- the mail
 read-mail-requires : tie.Need-read-mail-requires
-read-mail-requires c _ =
+read-mail-requires c κs =
     let pre = c .before .before .before .pre in
     (pre .0, pre .1, le-refl _)
 
--- what `two_bytes` requires, behind read_mail Went(to, n)
-two-bytes-requires : tie.Need-two-bytes-requires
-two-bytes-requires c _ =
-    let read-mail-ensures = c .before .before .before .before .before .read-mail .ensures in
-    (rw (c .before .to .given .1) at read-mail-ensures) .moved .1
-
--- the sum does not wrap, behind read_mail Went(to, n), two_bytes Crlf
-add-t17 : tie.Need-add-t17
-add-t17 c =
-    let two-bytes-ensures = c .before .before .two-bytes .ensures in
-    omega (arith, (rw (c .enum-told .given .1) at two-bytes-ensures) .ends .within)
-
--- a way out, behind read_mail Stopped(a)
+-- it stopped
 returns : tie.Need-returns
-returns c =
-    let read-mail-ensures = c .before .before .before .before .before .read-mail .ensures in
-    stopped (rw (c .before .a .given .1) at read-mail-ensures)
+returns c = stopped (rw (c .before .a .given .1) at (c .before .before .before .before .before .read-mail .ensures))
 
--- a way out, behind read_mail Went(to, n), two_bytes Crlf
+-- ---- the two bytes behind it
+two-bytes-requires : tie.Need-two-bytes-requires
+two-bytes-requires c κs = went (c .before) .moved .1
+
+-- CRLF: the literal is closed
+crlf-at : (c : tie.After-enum-told) →
+    let told = c .before .before .before .before in
+    Pair (start told .args .s .now) (told .to .given .0 .0) crlf
+crlf-at c = rw (c .enum-told .given .1) at (c .before .before .two-bytes .ensures)
+
+add-t17 : tie.Need-add-t17
+add-t17 c = omega (arith, crlf-at c .ends .within)
+
 returns-2 : tie.Need-returns-2
-unfolding wants afterMail
-returns-2 c =
-    let enum-told-is = c .enum-told .given .1 in
-    let two-bytes-ensures = c .before .before .two-bytes .ensures in
-    let after-to = c .before .before .before .before in
-    let to-is = after-to .to .given .1 in
-    let read-mail-ensures = after-to .before .before .before .before .read-mail .ensures in
-    let two-bytes-told = rw enum-told-is at two-bytes-ensures in
-    walked (rw to-is at read-mail-ensures) (read-as closing (two-bytes-told .ends) (closing-crlf two-bytes-told) (here _ (two-bytes-told .ends .within)))
+returns-2 c = walked (went (c .before .before .before .before)) (closing-crlf (crlf-at c))
 
--- a way out, behind read_mail Went(to, n), two_bytes Hyphens, stopped
+-- two hyphens: refusal 8
 returns-3 : tie.Need-returns-3
-unfolding wants afterMail
 returns-3 c =
-    let enum-told2-is = c .before .enum-told2 .given .1 in
-    let after-two-bytes = c .before .before .before in
-    let two-bytes-ensures = after-two-bytes .two-bytes .ensures in
-    let after-to = after-two-bytes .before .before in
-    let to-is = after-to .to .given .1 in
-    let read-mail-ensures = after-to .before .before .before .before .read-mail .ensures in
-    let two-bytes-told = rw enum-told2-is at two-bytes-ensures in
-    walked (rw to-is at read-mail-ensures) (read-as closing (two-bytes-told .ends) (closing-hyphens two-bytes-told) (stop (c .stopped .ensures)))
+    let called = c .before .before .before in
+    walked (went (called .before .before)) (closing-hyphens (rw (c .before .enum-told2 .given .1) at (called .two-bytes .ensures)) (c .stopped .ensures))
 
--- a way out, behind read_mail Went(to, n), two_bytes Other, stopped2
+-- other bytes: refusal 8
 returns-4 : tie.Need-returns-4
-unfolding wants afterMail
 returns-4 c =
-    let enum-told3-is = c .before .enum-told3 .given .1 in
-    let after-two-bytes = c .before .before .before in
-    let two-bytes-ensures = after-two-bytes .two-bytes .ensures in
-    let after-to = after-two-bytes .before .before in
-    let to-is = after-to .to .given .1 in
-    let read-mail-ensures = after-to .before .before .before .before .read-mail .ensures in
-    let two-bytes-told = rw enum-told3-is at two-bytes-ensures in
-    walked (rw to-is at read-mail-ensures) (read-as closing (two-bytes-told .ends) (closing-other two-bytes-told) (stop (c .stopped2 .ensures)))
+    let called = c .before .before .before in
+    walked (went (called .before .before)) (closing-other (rw (c .before .enum-told3 .given .1) at (called .two-bytes .ensures)) (c .stopped2 .ensures))
 
--- a way out, behind read_mail Went(to, n), two_bytes Stop(o), stopped3
+-- they are not there
 returns-5 : tie.Need-returns-5
-unfolding wants afterMail
 returns-5 c =
-    let o-is = c .before .before .o .given .1 in
-    let after-two-bytes = c .before .before .before .before in
-    let two-bytes-ensures = after-two-bytes .two-bytes .ensures in
-    let after-to = after-two-bytes .before .before in
-    let to-is = after-to .to .given .1 in
-    let read-mail-ensures = after-to .before .before .before .before .read-mail .ensures in
-    walked (rw to-is at read-mail-ensures) (read-stop closing (rw o-is at two-bytes-ensures) (c .stopped3 .ensures))
+    let called = c .before .before .before .before in
+    walked (went (called .before .before)) (closing-short (rw (c .before .before .o .given .1) at (called .two-bytes .ensures)) (c .stopped3 .ensures))
 
 pub append-mail-spec : {M : Type 1} → statement M
 append-mail-spec =
@@ -95,11 +83,11 @@ append-mail-spec =
     (λ c. search needs)
     add-t17
     (λ c. search needs)
-    (λ c _. search needs)
+    (λ c κs. search needs)
     (λ c. search needs)
-    (λ c _. search needs)
+    (λ c κs. search needs)
     (λ c. search needs)
-    (λ c _. search needs)
+    (λ c κs. search needs)
     (λ c. search needs)
     returns
     (λ c. search needs)

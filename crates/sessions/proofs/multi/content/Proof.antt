@@ -1,106 +1,91 @@
--- `sessions::multi::content` meets its contract. Assumes nothing.
-use mathlib.Core.List.{[]}
+-- `sessions::multi::content` meets its contract, by what stands behind the content's delimiter. Assumes nothing.
+use mathlib.Core.List.{List, []}
+use Prim.Native.Nat.{ℕ}
 use native.Mathlib.Omega.{arith}
 use borrow.Author.Needs.{needs}
-use Rattle.rules.specs.Phases.{reads, between, wants}
-use Rattle.sessions.specs.Walks.{piece}
+use Rattle.reading.specs.Reading.{crlf}
+use Rattle.rules.specs.Mail.{hyphens, starts, popped}
+use Rattle.rules.specs.Phases.{reads, content, between}
+use Rattle.rules.specs.declared.Mail.{Mail}
 use Rattle.rules.specs.declared.Mail.the-variants.{Smtp}
-use Rattle.sessions.proofs.MailTurns.{read-as, between-crlf, between-hyphens, between-other}
+use Rattle.sessions.specs.Walks.{Pair, Walks, piece}
+use Rattle.sessions.specs.declared.reads.Walk.the-variants as walk
+use Rattle.sessions.proofs.MailTurns.{between-crlf, between-hyphens, between-other, between-short}
 use Rattle.sessions.proofs.Parting.{parted-stop, parted-next, parted-closed}
-use Rattle.sessions.proofs.Steps.{here, stop, read-stop, walked, stopped}
+use Rattle.sessions.proofs.Steps.{walked, stopped}
 use Rattle.sessions.proofs.multi.content.Statement.{statement}
 use Rattle.sessions.proofs.multi.content.Tie as tie
 
--- what `two_bytes` requires, behind mime_body Went(p, n)
-two-bytes-requires : tie.Need-two-bytes-requires
-two-bytes-requires c _ =
-    let mime-body-ensures = c .before .before .before .before .before .mime-body .ensures in
-    (rw (c .before .p .given .1) at (mime-body-ensures Smtp [])) .moved .1
+-- behind `mime_body`'s answer `Went(p, n)`: the function's start
+abbrev start : tie.After-p → tie.Start
+start c = c .before .before .before .before .before .before .before .before
 
--- the sum does not wrap, behind mime_body Went(p, n), two_bytes Crlf
-add-t17 : tie.Need-add-t17
-add-t17 c =
-    let two-bytes-ensures = c .before .before .two-bytes .ensures in
-    omega (arith, (rw (c .enum-told .given .1) at two-bytes-ensures) .ends .within)
+-- there: the content has been walked up to its delimiter's end
+went : (c : tie.After-p) (m : Mail) (os : List (List ℕ)) →
+    let a = start c .args in
+    let b = piece (a .s .now) (a .b) in
+    let g = c .p .given .0 in
+    let table = c .before .before .before .before .mime-body .last .1 .1 .1 .1 .0 in
+    Walks (a .s .now) (a .table .now) (a .log) (a .at) (starts (a .at) (content m (a .encoding) b os)) (λ q. reads (between m b os)) (walk.Went (g .0) (g .1 .0)) table
+went c m os = rw (c .p .given .1) at (c .before .before .before .before .mime-body .ensures m os)
 
--- the sum does not wrap, behind mime_body Went(p, n), two_bytes Hyphens
-add-t18 : tie.Need-add-t18
-add-t18 c =
-    let two-bytes-ensures = c .before .before .two-bytes .ensures in
-    omega (arith, (rw (c .enum-told2 .given .1) at two-bytes-ensures) .ends .within)
-
--- a way out, behind mime_body Stopped(a)
+-- ---- the content stopped
 returns : tie.Need-returns
 returns c =
-    let after-mime-body = c .before .before .before .before .before in
-    let mime-body-ensures = after-mime-body .mime-body .ensures in
-    let start = after-mime-body .before .before .before .before in
-    λ m. parted-stop (λ os p. reads (between m (piece (start .args .s .now) (start .args .b)) os)) (λ os f. rw (c .before .a .given .1) at (mime-body-ensures m os))
+    let called = c .before .before .before .before .before in
+    λ m. parted-stop (popped m) (λ os f. stopped (rw (c .before .a .given .1) at (called .mime-body .ensures m os)))
 
--- a way out, behind mime_body Went(p, n), two_bytes Crlf
+-- ---- the two bytes behind the delimiter
+two-bytes-requires : tie.Need-two-bytes-requires
+two-bytes-requires c κs = went (c .before) Smtp [] .moved .1
+
+-- CRLF: another part follows
+crlf-at : (c : tie.After-enum-told) →
+    let told = c .before .before .before .before in
+    Pair (start told .args .s .now) (told .p .given .0 .0) crlf
+crlf-at c = rw (c .enum-told .given .1) at (c .before .before .two-bytes .ensures)
+
+add-t17 : tie.Need-add-t17
+add-t17 c = omega (arith, crlf-at c .ends .within)
+
 returns-2 : tie.Need-returns-2
-unfolding wants
 returns-2 c =
-    let enum-told-is = c .enum-told .given .1 in
-    let two-bytes-ensures = c .before .before .two-bytes .ensures in
-    let after-p = c .before .before .before .before in
-    let p-is = after-p .p .given .1 in
-    let mime-body-ensures = after-p .before .before .before .before .mime-body .ensures in
-    let two-bytes-told = rw enum-told-is at two-bytes-ensures in
-    λ m. parted-next (omega (arith, (rw p-is at (mime-body-ensures Smtp [])) .moved .0)) (two-bytes-told .ends .within)
-    (λ os f. walked (rw p-is at (mime-body-ensures m os)) (read-as (between m _ os) (two-bytes-told .ends) (between-crlf m _ os two-bytes-told)
-    (here _ (two-bytes-told .ends .within))))
+    let told = c .before .before .before .before in
+    λ m. parted-next (omega (arith, went told m [] .moved .0)) (crlf-at c .ends .within) (λ os f. walked (went told m os) (between-crlf m _ os (crlf-at c)))
 
--- a way out, behind mime_body Went(p, n), two_bytes Hyphens
+-- two hyphens: the multipart is closed
+hyphens-at : (c : tie.After-enum-told2) →
+    let told = c .before .before .before .before in
+    Pair (start told .args .s .now) (told .p .given .0 .0) hyphens
+hyphens-at c = rw (c .enum-told2 .given .1) at (c .before .before .two-bytes .ensures)
+
+add-t18 : tie.Need-add-t18
+add-t18 c = omega (arith, hyphens-at c .ends .within)
+
 returns-3 : tie.Need-returns-3
-unfolding wants
 returns-3 c =
-    let enum-told2-is = c .enum-told2 .given .1 in
-    let two-bytes-ensures = c .before .before .two-bytes .ensures in
-    let after-p = c .before .before .before .before in
-    let p-is = after-p .p .given .1 in
-    let mime-body-ensures = after-p .before .before .before .before .mime-body .ensures in
-    let two-bytes-told = rw enum-told2-is at two-bytes-ensures in
-    λ m. parted-closed (omega (arith, (rw p-is at (mime-body-ensures Smtp [])) .moved .0)) (two-bytes-told .ends .within)
-    (λ os f. walked (rw p-is at (mime-body-ensures m os)) (read-as (between m _ os) (two-bytes-told .ends) (between-hyphens m _ os two-bytes-told)
-    (here _ (two-bytes-told .ends .within))))
+    let told = c .before .before .before .before in
+    λ m. parted-closed (omega (arith, went told m [] .moved .0)) (hyphens-at c .ends .within) (λ os f. walked (went told m os) (between-hyphens m _ os (hyphens-at c)))
 
--- a way out, behind mime_body Went(p, n), two_bytes Other, stopped
+-- other bytes: refusal 6
 returns-4 : tie.Need-returns-4
-unfolding wants
 returns-4 c =
-    let enum-told3-is = c .before .enum-told3 .given .1 in
-    let after-two-bytes = c .before .before .before in
-    let two-bytes-ensures = after-two-bytes .two-bytes .ensures in
-    let after-p = after-two-bytes .before .before in
-    let p-is = after-p .p .given .1 in
-    let after-mime-body = after-p .before .before .before .before in
-    let mime-body-ensures = after-mime-body .mime-body .ensures in
-    let start = after-mime-body .before .before .before .before in
-    let two-bytes-told = rw enum-told3-is at two-bytes-ensures in
-    λ m. parted-stop (λ os p. reads (between m (piece (start .args .s .now) (start .args .b)) os))
-    (λ os f. walked (rw p-is at (mime-body-ensures m os)) (read-as (between m _ os) (two-bytes-told .ends) (between-other m _ os two-bytes-told) (stop (c .stopped .ensures))))
+    let called = c .before .before .before in
+    let other = rw (c .before .enum-told3 .given .1) at (called .two-bytes .ensures) in
+    λ m. parted-stop (popped m) (λ os f. walked (went (called .before .before) m os) (between-other m _ os other (c .stopped .ensures)))
 
--- a way out, behind mime_body Went(p, n), two_bytes Stop(o), stopped2
+-- they are not there
 returns-5 : tie.Need-returns-5
-unfolding wants
 returns-5 c =
-    let o-is = c .before .before .o .given .1 in
-    let after-two-bytes = c .before .before .before .before in
-    let two-bytes-ensures = after-two-bytes .two-bytes .ensures in
-    let after-p = after-two-bytes .before .before in
-    let p-is = after-p .p .given .1 in
-    let after-mime-body = after-p .before .before .before .before in
-    let mime-body-ensures = after-mime-body .mime-body .ensures in
-    let start = after-mime-body .before .before .before .before in
-    λ m. parted-stop (λ os p. reads (between m (piece (start .args .s .now) (start .args .b)) os))
-    (λ os f. walked (rw p-is at (mime-body-ensures m os)) (read-stop (between m _ os) (rw o-is at two-bytes-ensures) (c .stopped2 .ensures)))
+    let called = c .before .before .before .before in
+    let short = rw (c .before .before .o .given .1) at (called .two-bytes .ensures) in
+    λ m. parted-stop (popped m) (λ os f. walked (went (called .before .before) m os) (between-short m _ os short (c .stopped2 .ensures)))
 
 pub content-spec : {M : Type 1} → statement M
 content-spec =
     tie.close
     (tie.spec
-    (λ c _. search needs)
+    (λ c κs. search needs)
     (λ c. search needs)
     (λ c. search needs)
     two-bytes-requires
@@ -109,9 +94,9 @@ content-spec =
     (λ c. search needs)
     add-t18
     (λ c. search needs)
-    (λ c _. search needs)
+    (λ c κs. search needs)
     (λ c. search needs)
-    (λ c _. search needs)
+    (λ c κs. search needs)
     (λ c. search needs)
     returns
     (λ c. search needs)

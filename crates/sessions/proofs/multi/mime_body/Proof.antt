@@ -1,94 +1,90 @@
--- `sessions::multi::mime_body` meets its contract. Assumes nothing.
+-- `sessions::multi::mime_body` meets its contract: the body's start, then all up to the delimiter. Assumes nothing.
 use mathlib.Core.List.{[]}
 use native.Mathlib.Omega.{arith}
 use borrow.Author.Needs.{needs}
+use Rattle.events.specs.Events.{ev, bodyStart}
+use Rattle.events.specs.declared.Encoding.the-variants.{Unsaid}
+use Rattle.reading.specs.Reading.{delimiter}
 use Rattle.rules.specs.Phases.{reads, content, between, wants}
-use Rattle.sessions.specs.Walks.{piece}
+use Rattle.sessions.specs.Walks.{Ends, Notes, piece}
+use Rattle.sessions.specs.declared.reads.Noted.the-variants as noted
 use Rattle.sessions.proofs.MailTurns.{read-as, content-all}
 use Rattle.sessions.proofs.Readings.{piece-length}
 use Rattle.sessions.proofs.Steps.{read-stop, note-stop, note}
 use Rattle.sessions.proofs.multi.mime_body.Statement.{statement}
 use Rattle.sessions.proofs.multi.mime_body.Tie as tie
 
--- the measure falls, behind note Written(next), delimited To(e)
-sub-less : tie.Need-sub-less
-sub-less c = omega (arith, (rw (c .before .e .given .1) at (c .before .before .before .delimited .ensures)) .on)
+-- behind `note`'s answer `Written(next)`: the function's start
+abbrev start : tie.After-next → tie.Start
+start c = c .before .before .before .before .before .before .before .before
 
--- the sum does not wrap, behind note Written(next), delimited To(e), struct_known, less
-add-hold : tie.Need-add-hold
-add-hold c =
-    let after-e = c .before .before .before .before in
-    let e-is = after-e .e .given .1 in
-    let delimited-ensures = after-e .before .before .delimited .ensures in
-    omega (arith, c .before .less .ensures, (rw e-is at delimited-ensures) .within)
+-- there: the body's start is listed
+started : (c : tie.After-next) →
+    let a = start c .args in
+    Notes (a .table .now) (a .log) (ev bodyStart (a .at) 0 Unsaid) (noted.Written (c .next .given .0 .0)) (c .before .before .before .before .note .last .0)
+started c = rw (c .next .given .1) at (c .before .before .before .before .note .ensures)
 
--- what `hold` requires, behind note Written(next), delimited To(e), struct_known, less
-hold-requires : tie.Need-hold-requires
-hold-requires c _ =
-    let after-e = c .before .before .before .before in
-    let e-is = after-e .e .given .1 in
-    let delimited-ensures = after-e .before .before .delimited .ensures in
-    let delimited-told = rw e-is at delimited-ensures in
-    (omega arith, omega (arith, c .before .less .ensures, delimited-told .on, delimited-told .within))
+-- behind `delimited`'s answer `To(e)`: the content's delimiter ends at e
+delimiter-to : (c : tie.After-e) →
+    let a = c .before .before .before .before .before .before .before .before .before .before .before .before .args in
+    Ends (delimiter (piece (a .s .now) (a .b))) (a .s .now) (a .at) (c .e .given .0 .0)
+delimiter-to c = rw (c .e .given .1) at (c .before .before .delimited .ensures)
 
--- a way out, behind note Stopped(a)
+-- ---- the body's start finds no slot
 returns : tie.Need-returns
 returns c =
-    let note-ensures = c .before .before .before .before .before .note .ensures in
-    λ m os. note-stop [] (reads (content m _ _ os)) (rw (c .before .a .given .1) at note-ensures)
+    let called = c .before .before .before .before .before in
+    λ m os. note-stop [] (reads (content m _ _ os)) (rw (c .before .a .given .1) at (called .note .ensures))
 
--- a way out, behind note Written(next), delimited Stop(o), stopped
+-- ---- there is no delimiter
 returns-2 : tie.Need-returns-2
 unfolding wants
 returns-2 c =
-    let o-is = c .before .before .o .given .1 in
-    let after-delimited = c .before .before .before .before in
-    let delimited-ensures = after-delimited .delimited .ensures in
-    let after-next = after-delimited .before .before in
-    let next-is = after-next .next .given .1 in
-    let after-note = after-next .before .before .before .before in
-    let note-ensures = after-note .note .ensures in
-    let start = after-note .before .before .before .before in
-    λ m os. note [] (reads (content m _ _ os)) (rw next-is at note-ensures)
-    (read-stop (content m _ (piece (start .args .s .now) (start .args .b)) os) (rw o-is at delimited-ensures) (c .stopped .ensures))
+    let called = c .before .before .before .before in
+    let told = called .before .before in
+    let a = start told .args in
+    let short = rw (c .before .before .o .given .1) at (called .delimited .ensures) in
+    λ m os. note [] (reads (content m _ _ os)) (started told) (read-stop (content m _ (piece (a .s .now) (a .b)) os) short (c .stopped .ensures))
 
--- a way out, behind note Written(next), delimited To(e), struct_known, less, hold
+-- ---- there is one: the content ends before it
+sub-less : tie.Need-sub-less
+sub-less c = omega (arith, delimiter-to (c .before) .on)
+
+add-hold : tie.Need-add-hold
+add-hold c = omega (arith, c .before .less .ensures, delimiter-to (c .before .before .before .before) .within)
+
+hold-requires : tie.Need-hold-requires
+hold-requires c κs =
+    let delimiter = delimiter-to (c .before .before .before .before) in
+    (omega arith, omega (arith, c .before .less .ensures, delimiter .on, delimiter .within))
+
 returns-3 : tie.Need-returns-3
 unfolding wants
 returns-3 c =
-    let hold-ensures = c .before .before .hold .ensures in
-    let after-less = c .before .before .before .before in
-    let less-ensures = after-less .less .ensures in
-    let after-e = after-less .before .before .before in
-    let e-is = after-e .e .given .1 in
-    let after-delimited = after-e .before .before in
-    let delimited-ensures = after-delimited .delimited .ensures in
-    let after-next = after-delimited .before .before in
-    let next-is = after-next .next .given .1 in
-    let after-note = after-next .before .before .before .before in
-    let note-ensures = after-note .note .ensures in
-    let start = after-note .before .before .before .before in
-    let s = start .args .s .now in
-    let b = start .args .b in
-    let delimited-told = rw e-is at delimited-ensures in
-    λ m os. note [] (reads (content m _ _ os)) (rw next-is at note-ensures)
-    (read-as (content m _ (piece s b) os) delimited-told (content-all delimited-told m _ _ os _ (omega (arith, less-ensures, piece-length s b (start .pre .2))))
-    (hold-ensures s (λ p. reads (between m _ os)) (delimited-told .within)))
+    let taken = c .before .before .before .before .before .before .before in
+    let told = taken .before .before .before .before in
+    let s = start told .args .s .now in
+    let b = start told .args .b in
+    let delimiter = delimiter-to taken in
+    let long = piece-length s b (start told .pre .2) in
+    λ m os. note [] (reads (content m _ _ os)) (started told)
+    (read-as (content m _ (piece s b) os) delimiter (content-all delimiter m _ _ os _ (omega (arith, c .before .before .before .before .less .ensures, long)))
+    (c .before .before .hold .ensures s (λ p. reads (between m _ os)) (delimiter .within)))
 
 pub mime-body-spec : {M : Type 1} → statement M
 mime-body-spec =
     tie.close
     (tie.spec
-    (λ c _. (omega arith, omega arith))
+    (λ c κs. (omega arith, omega arith))
     (λ c. search needs)
     (λ c. search needs)
-    (λ c _. search needs)
+    (λ c κs. search needs)
     (λ c. search needs)
-    (λ c _. search needs)
+    (λ c κs. search needs)
     (λ c. search needs)
     sub-less
     (λ c. omega arith)
-    (λ c _. search needs)
+    (λ c κs. search needs)
     add-hold
     hold-requires
     (λ c. search needs)
