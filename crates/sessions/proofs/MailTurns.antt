@@ -12,17 +12,16 @@ use Rattle.events.specs.declared.Answer.{Answer}
 use Rattle.events.specs.declared.Encoding.{Encoding}
 use Rattle.events.specs.declared.Encoding.the-variants.{Unsaid}
 use Rattle.events.specs.declared.Log.{Log}
-use Rattle.events.specs.declared.Outcome.{Outcome}
 use Rattle.events.specs.declared.Outcome.the-variants.{BadDelimiter}
 use Rattle.fields.specs.Common.{part, unknown, dashBdry}
 use Rattle.reading.specs.Bytes.{startsWith, same}
-use Rattle.reading.specs.Reading.{Need, two, crlf}
+use Rattle.reading.specs.Reading.{Need, crlf, delimiter}
 use Rattle.rules.specs.Machine.{Reaction}
 use Rattle.rules.specs.Mail.{dotLine, hyphens, afterMail, rest, literalBody, held, whole, contentLength, outermost, byRest, skip, lastLine, popped, onText, onLiteral}
-use Rattle.rules.specs.Mail.{onOpened, onContent, onBetween, onSkipping, onResting}
-use Rattle.rules.specs.Phases.{Phase, State, reads, wants, then, closing, head, text, literal, opened, content, between, skipping, resting}
+use Rattle.rules.specs.Mail.{onPreamble, onOpened, onContent, onBetween, onSkipping, onResting}
+use Rattle.rules.specs.Phases.{Phase, State, reads, wants, then, closing, head, text, literal, preamble, opened, content, between, skipping, resting}
 use Rattle.rules.specs.Sessions.{reacts}
-use Rattle.sessions.specs.Walks.{Ends, Stops, Stopped, Pair, NoPair, Notes, goes, Walks, piece, Lies, Begun}
+use Rattle.sessions.specs.Walks.{Ends, Stopped, Pair, NoPair, Notes, goes, Walks, piece, Lies, Begun}
 use Rattle.sessions.specs.declared.reads.Boundary.{Boundary}
 use Rattle.rules.specs.declared.Mail.{Mail}
 use Rattle.rules.specs.declared.Mail.the-variants.{Smtp, Pop3, Imap}
@@ -77,21 +76,17 @@ module _ {nd : Need} {s : List ℕ} {at e : ℕ} (d : Ends nd s at e) where
   unfolding reacts onResting
   resting-all m b os n = rw behind
 
--- ---- the two bytes behind a delimiter
+-- ---- a delimiter, and the two bytes behind it
 module _ {s t : List ℕ} {log : Log} {at : ℕ} (m : Mail) (b : List ℕ) (os : List (List ℕ)) where
+  -- a preamble: all up to the first delimiter
+  pub preamble-on : {e : ℕ} → Ends (delimiter b) s at e → Walks s t log at (then [] (preamble m b os)) (λ q. reads (opened m b os)) (walk.Went e log) t
+  unfolding reacts onPreamble wants
+  preamble-on {e} d = steps.read (preamble m b os) d (steps.here e (d .within))
+
   -- behind a preamble: CRLF opens the first part, anything else is refused
   pub opened-crlf : Pair s at crlf → Walks s t log at (then [] (opened m b os)) (λ q. reads (head m unknown (b ∷ os))) (walk.Went (at + 2) log) t
   unfolding reacts onOpened same startsWith wants
   opened-crlf p = steps.read (opened m b os) (p .ends) (rw (p .is) (steps.here (at + 2) (p .ends .within)))
-
-  -- behind a content: CRLF opens the next part, two hyphens close the multipart, anything else is refused
-  pub between-crlf : Pair s at crlf → Walks s t log at (then [] (between m b os)) (λ q. reads (head m unknown (b ∷ os))) (walk.Went (at + 2) log) t
-  unfolding reacts onBetween same startsWith wants
-  between-crlf p = steps.read (between m b os) (p .ends) (rw (p .is) (steps.here (at + 2) (p .ends .within)))
-
-  pub between-hyphens : Pair s at hyphens → Walks s t log at (then [] (between m b os)) (λ q. skip m b os q) (walk.Went (at + 2) log) t
-  unfolding reacts onBetween same startsWith wants
-  between-hyphens p = steps.read (between m b os) (p .ends) (rw (p .is) (steps.here (at + 2) (p .ends .within)))
 
   module _ {to : ℕ → State} {a : Answer} where
     pub opened-hyphens : Pair s at hyphens → Stopped BadDelimiter at log a → Walks s t log at (then [] (opened m b os)) to (walk.Stopped a) t
@@ -102,17 +97,18 @@ module _ {s t : List ℕ} {log : Log} {at : ℕ} (m : Mail) (b : List ℕ) (os :
     unfolding reacts onOpened wants
     opened-other p w = steps.read (opened m b os) (p .ends) (rw (p .no-crlf) (steps.stop w))
 
-    pub opened-short : {o : Outcome} → Stops two s at o → Stopped o at log a → Walks s t log at (then [] (opened m b os)) to (walk.Stopped a) t
-    unfolding wants
-    opened-short d w = steps.read-stop (opened m b os) d w
+  -- behind a content: CRLF opens the next part, two hyphens close the multipart, anything else is refused
+  pub between-crlf : Pair s at crlf → Walks s t log at (then [] (between m b os)) (λ q. reads (head m unknown (b ∷ os))) (walk.Went (at + 2) log) t
+  unfolding reacts onBetween same startsWith wants
+  between-crlf p = steps.read (between m b os) (p .ends) (rw (p .is) (steps.here (at + 2) (p .ends .within)))
 
-    pub between-other : NoPair s at → Stopped BadDelimiter at log a → Walks s t log at (then [] (between m b os)) to (walk.Stopped a) t
-    unfolding reacts onBetween wants
-    between-other p w = steps.read (between m b os) (p .ends) (rw (p .no-crlf, p .no-hyphens) (steps.stop w))
+  pub between-hyphens : Pair s at hyphens → Walks s t log at (then [] (between m b os)) (λ q. skip m b os q) (walk.Went (at + 2) log) t
+  unfolding reacts onBetween same startsWith wants
+  between-hyphens p = steps.read (between m b os) (p .ends) (rw (p .is) (steps.here (at + 2) (p .ends .within)))
 
-    pub between-short : {o : Outcome} → Stops two s at o → Stopped o at log a → Walks s t log at (then [] (between m b os)) to (walk.Stopped a) t
-    unfolding wants
-    between-short d w = steps.read-stop (between m b os) d w
+  pub between-other : {to : ℕ → State} {a : Answer} → NoPair s at → Stopped BadDelimiter at log a → Walks s t log at (then [] (between m b os)) to (walk.Stopped a) t
+  unfolding reacts onBetween wants
+  between-other p w = steps.read (between m b os) (p .ends) (rw (p .no-crlf, p .no-hyphens) (steps.stop w))
 
 -- ---- bodies at once
 pub whole-none : (kind : ℕ) (c : Encoding) (at end : ℕ) → at ≡ end → whole kind c at (end - at) ≡ ev bodyStop end 0 Unsaid ∷ []

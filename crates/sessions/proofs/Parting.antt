@@ -18,9 +18,9 @@ use Rattle.fields.specs.declared.common.Bdry.the-variants.{Unsupplied, Of}
 use Rattle.fields.specs.declared.common.Scan.{Scan}
 use Rattle.reading.proofs.Words.{rest-is}
 use Rattle.rules.specs.Machine.{Reaction}
-use Rattle.rules.specs.Mail.{afterMail, plainMail, starts, boundaryFree, begun, outermost, popped, skip, onPreamble}
-use Rattle.rules.specs.Phases.{State, reads, head, content, preamble, opened, then}
-use Rattle.rules.specs.Sessions.{reacts, session, settle}
+use Rattle.rules.specs.Mail.{afterMail, plainMail, starts, boundaryFree, begun, outermost, popped, skip}
+use Rattle.rules.specs.Phases.{State, reads, head, content, then}
+use Rattle.rules.specs.Sessions.{session, settle}
 use Rattle.sessions.specs.Walks.{Stopped, goes, under, walkLeft, Moved, Walks, Headers, piece, Lies, Within, partedLeft, MovedPart, Parts, Inner, MultiBodyIs, PartIs}
 use Rattle.sessions.specs.declared.reads.Boundary.{Boundary}
 use Rattle.sessions.specs.declared.header.Headed.{Headed}
@@ -46,10 +46,6 @@ module _ {s t : List ℕ} {log : Log} {at : ℕ} {m : Mail} {b : List ℕ} {from
   pub parted-closed : {p : ℕ} {n : Log} → at < p → p ≤ length s → ((os : List (List ℕ)) → Asked os → Walks s t log at (from os) (λ q. skip m b os q) (walk.Went p n) u)
       → Parts s t log at m b from Asked (parted.Closed p n) u
   parted-closed h g w = record { moved = (h, g); is = λ os f. w os f .is }
-
-pub preamble-any : (m : Mail) (b : List ℕ) (os : List (List ℕ)) (at : ℕ) (l : List ℕ) → reacts (preamble m b os) at l ≡ then [] (opened m b os)
-unfolding reacts onPreamble
-preamble-any m b os at l = refl
 
 -- ---- and back: what such an answer says as a walk
 module _ {s t : List ℕ} {log : Log} {at : ℕ} {m : Mail} {b : List ℕ} {from : List (List ℕ) → Reaction State} {Asked : List (List ℕ) → Type 0} {u : List ℕ}

@@ -6,10 +6,12 @@ use mathlib.Core.List.{List, []}
 use Prim.Native.Nat.{ℕ, _+_, _-_, _≤_, _<_}
 use native.Mathlib.Omega.{arith}
 use lib.ListN.{length, take, drop, length-take, length-drop}
+use Rattle.events.specs.Events.{ev}
 use Rattle.events.specs.Events as event
 use Rattle.events.specs.declared.Answer.{Answer}
+use Rattle.events.specs.declared.Encoding.the-variants.{Unsaid}
 use Rattle.events.specs.declared.Log.{Log}
-use Rattle.events.specs.declared.Outcome.the-variants.{Done, NoHello, StartTls}
+use Rattle.events.specs.declared.Outcome.the-variants.{Done, NoHello, StartTls, NoRecipient}
 use Rattle.fields.specs.Common.{part, unknown}
 use Rattle.fields.specs.Smtp.{startsWithHelo, isMailFrom, secondLine, isData, fromField, toField, closing, upToEnd, required, mailFrom, rcptTo}
 use Rattle.fields.specs.declared.smtp.Address.{Address}
@@ -22,15 +24,16 @@ use Rattle.reading.specs.Reading.{aLine, clean}
 use Rattle.reading.specs.Text.{text}
 use Rattle.reading.specs.declared.Place.{Place}
 use Rattle.reading.specs.declared.Place.the-variants.{At, Nowhere}
-use Rattle.rules.specs.Phases.{State, hello, second, user, password, sender, seeking, recipient, reply, head, then, wants}
+use Rattle.rules.specs.Phases.{State, reads, hello, second, user, password, sender, seeking, recipient, reply, head, then, wants}
 use Rattle.rules.specs.Sessions.{reacts}
-use Rattle.rules.specs.Smtp.{onHello, tried, bySecond, onSecond, onUser, onPassword, onSender, onSeeking, byRecipient, onRecipient, onReply}
-use Rattle.sessions.specs.Walks.{Ends, Cleaned, Stopped, Walks, Lists, LinedTo, LinedStop}
+use Rattle.rules.specs.Smtp.{onHello, given, tried, bySecond, onSecond, onUser, onPassword, onSender, onSeeking, byRecipient, onRecipient, onReply}
+use Rattle.sessions.specs.Walks.{Ends, Cleaned, Stopped, Notes, Walks, Lists, LinedTo, LinedStop}
 use Rattle.rules.specs.declared.Mail.the-variants.{Smtp}
+use Rattle.sessions.specs.declared.reads.Noted.the-variants as noted
 use Rattle.sessions.specs.declared.reads.Walk.{Walk}
 use Rattle.sessions.specs.declared.reads.Walk.the-variants as walk
 use Rattle.sessions.proofs.Lines.{line-on, line-stop}
-use Rattle.sessions.proofs.Steps.{stop, read}
+use Rattle.sessions.proofs.Steps.{here, stop, read, note-stop, note}
 
 -- ---- an address lies inside its line
 abbrev InLine : List ℕ → Address → Type 0
@@ -115,6 +118,38 @@ module _ {s : List ℕ} {at end e : ℕ} (d : Cleaned s at end e) {t : List ℕ}
     pub recipient-line : isData (part s at end) ≡ false → Walks s t log e (byRecipient at (rcptTo (part s at end))) to r u → Walks s t log at (then [] recipient) to r u
     unfolding reacts onRecipient wants
     recipient-line h w = read recipient (d .ends) (rw (← (d .is), h) w)
+
+-- ---- the address that a line at `at` holds: its event, and reading goes on at e
+module _ {s t : List ℕ} {log : Log} (at : ℕ) {e : ℕ} {x : Address} where
+  -- tried as sender: without one, nothing is listed
+  pub tried-none : x ≡ Missing → e ≤ length s → Walks s t log e (then (given at x) recipient) (λ p. reads recipient) (walk.Went e log) t
+  unfolding given
+  tried-none h g = rw h (here e g)
+
+  pub tried-full : {to : ℕ → State} {a : Answer} {o n : ℕ} {u : List ℕ} → x ≡ Given o n → Notes t log (ev event.sender (at + o) n Unsaid) (noted.Stopped a) u
+      → Walks s t log e (then (given at x) recipient) to (walk.Stopped a) u
+  unfolding given
+  tried-full h w = rw h (note-stop [] (reads recipient) w)
+
+  pub tried-some : {next : Log} {o n : ℕ} {u : List ℕ} → x ≡ Given o n → Notes t log (ev event.sender (at + o) n Unsaid) (noted.Written next) u → e ≤ length s
+      → Walks s t log e (then (given at x) recipient) (λ p. reads recipient) (walk.Went e next) u
+  unfolding given
+  tried-some h w g = rw h (note [] (reads recipient) w (here e g))
+
+  -- a recipient: without one, the session is refused
+  pub recipient-none : {to : ℕ → State} {a : Answer} → x ≡ Missing → Stopped NoRecipient at log a → Walks s t log e (byRecipient at x) to (walk.Stopped a) t
+  unfolding byRecipient
+  recipient-none h w = rw h (stop w)
+
+  pub recipient-full : {to : ℕ → State} {a : Answer} {o n : ℕ} {u : List ℕ} → x ≡ Given o n → Notes t log (ev event.recipient (at + o) n Unsaid) (noted.Stopped a) u
+      → Walks s t log e (byRecipient at x) to (walk.Stopped a) u
+  unfolding byRecipient
+  recipient-full h w = rw h (note-stop [] (reads recipient) w)
+
+  pub recipient-some : {next : Log} {o n : ℕ} {u : List ℕ} → x ≡ Given o n → Notes t log (ev event.recipient (at + o) n Unsaid) (noted.Written next) u → e ≤ length s
+      → Walks s t log e (byRecipient at x) (λ p. reads recipient) (walk.Went e next) u
+  unfolding byRecipient
+  recipient-some h w g = rw h (note [] (reads recipient) w (here e g))
 
 -- ---- lines listed
 user-lists : (at : ℕ) → Lists event.user at user

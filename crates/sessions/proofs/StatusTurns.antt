@@ -9,20 +9,19 @@ use lib.ListN.{length, drop}
 use Rattle.events.specs.Events.{serverLine, clientLine}
 use Rattle.events.specs.declared.Answer.{Answer}
 use Rattle.events.specs.declared.Log.{Log}
-use Rattle.events.specs.declared.Outcome.{Outcome}
 use Rattle.events.specs.declared.Outcome.the-variants.{Done, OpenLiteral}
 use Rattle.fields.specs.Common.{part, unknown}
 use Rattle.fields.specs.Imap.{isAppend, appendSize, holdsColon}
 use Rattle.fields.specs.Pop3.{stlsAnswer, retrAnswer}
 use Rattle.reading.proofs.Places.{by-test}
 use Rattle.reading.specs.Bytes.{startsWith, same}
-use Rattle.reading.specs.Reading.{aLine, two, crlf, clean}
+use Rattle.reading.specs.Reading.{aLine, crlf, clean}
 use Rattle.rules.specs.Imap.{onCommand, onOffered, onClosing}
 use Rattle.rules.specs.Mail.{hyphens}
 use Rattle.rules.specs.Phases.{State, reads, wants, then, status, command, offered, closing, head}
 use Rattle.rules.specs.Pop3.{onStatus}
 use Rattle.rules.specs.Sessions.{reacts, session, settle}
-use Rattle.sessions.specs.Walks.{Stopped, Ends, Stops, Pair, NoPair, Walks, Lists, LinedTo, LinedStop, Moved, Farther, Turns}
+use Rattle.sessions.specs.Walks.{Stopped, Ends, Pair, NoPair, Walks, Lists, LinedTo, LinedStop, Moved, Farther, Turns}
 use Rattle.rules.specs.declared.Mail.the-variants.{Pop3, Imap}
 use Rattle.sessions.specs.declared.reads.Walk.{Walk}
 use Rattle.sessions.specs.declared.reads.Walk.the-variants as walk
@@ -116,7 +115,3 @@ module _ {s t : List ℕ} {log : Log} {at : ℕ} where
     pub closing-other : NoPair s at → Stopped OpenLiteral at log a → Walks s t log at (then [] closing) to (walk.Stopped a) t
     unfolding reacts onClosing wants
     closing-other p w = steps.read closing (p .ends) (rw (p .no-crlf) (steps.stop w))
-
-    pub closing-short : {o : Outcome} → Stops two s at o → Stopped o at log a → Walks s t log at (then [] closing) to (walk.Stopped a) t
-    unfolding wants
-    closing-short d w = steps.read-stop closing d w

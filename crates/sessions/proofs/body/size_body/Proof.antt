@@ -20,12 +20,17 @@ start c = c .before .before .before .before .before .before .before .before
 -- there: the body's start is listed
 started : (c : tie.After-next) →
     let a = start c .args in
-    Notes (a .table .now) (a .log) (ev bodyStart (a .at) 0 Unsaid) (noted.Written (c .next .given .0 .0)) (c .before .before .before .before .note .last .0)
+    let table = c .before .before .before .before .note .last .0 in
+    Notes (a .table .now) (a .log) (ev bodyStart (a .at) 0 Unsaid) (noted.Written (c .next .given .0 .0)) table
 started c = rw (c .next .given .1) at (c .before .before .before .before .note .ensures)
 
--- behind `sized`'s answer `To(e)`: the literal ends at e
+-- behind `sized`'s answer `To(e)`: where the start was listed
+abbrev listed : tie.After-e → tie.After-next
+listed c = c .before .before .before .before .before
+
+-- there: what is left of the literal ends at e
 bytes-to : (c : tie.After-e) →
-    let a = c .before .before .before .before .before .before .before .before .before .before .before .before .before .args in
+    let a = start (listed c) .args in
     Ends (bytes (a .size - 1)) (a .s .now) (a .at) (c .e .given .0 .0)
 bytes-to c = rw (c .e .given .1) at (c .before .before .sized .ensures)
 
@@ -36,11 +41,12 @@ returns-2 c = literal-full _ _ (rw (c .before .a .given .1) at (c .before .befor
 -- ---- nothing is left of the literal
 returns : tie.Need-returns
 returns c =
-    let told = c .before .before .before .before .before .before in
+    let tested = c .before .before .before .before in
+    let told = tested .before .before in
     let a = start told .args in
-    literal-none _ (a .size) (c .before .before .before .before .if1 .taken) (started told) (c .before .before .close .ensures (a .s .now) (λ p. reads closing) (start told .pre .1))
+    literal-none _ (a .size) (tested .if1 .taken) (started told) (c .before .before .close .ensures (a .s .now) (λ p. reads closing) (start told .pre .1))
 
--- ---- something is: the bytes are not there
+-- ---- something is left, and the buffer ends before
 returns-3 : tie.Need-returns-3
 unfolding wants
 returns-3 c =
@@ -50,7 +56,7 @@ returns-3 c =
     let short = rw (c .before .before .o .given .1) at (called .sized .ensures) in
     literal-some _ (a .size) (omega arith) (started told) (read-stop (literal (a .encoding) (a .size - 1)) short (c .stopped .ensures))
 
--- ---- or they are
+-- ---- something is left, and it is there
 hold-requires : tie.Need-hold-requires
 hold-requires c κs =
     let body = bytes-to (c .before .before) in
@@ -60,7 +66,7 @@ returns-4 : tie.Need-returns-4
 unfolding wants
 returns-4 c =
     let taken = c .before .before .before .before .before in
-    let told = taken .before .before .before .before .before in
+    let told = listed taken in
     let a = start told .args in
     let body = bytes-to taken in
     literal-some _ (a .size) (omega arith) (started told)

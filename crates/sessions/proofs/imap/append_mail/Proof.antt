@@ -6,12 +6,12 @@ use borrow.Author.Needs.{needs}
 use Rattle.fields.specs.Common.{unknown}
 use Rattle.reading.specs.Reading.{crlf}
 use Rattle.rules.specs.Mail.{afterMail}
-use Rattle.rules.specs.Phases.{reads, closing, head, then}
+use Rattle.rules.specs.Phases.{reads, closing, head, then, wants}
 use Rattle.rules.specs.declared.Mail.the-variants.{Imap}
 use Rattle.sessions.specs.Walks.{Pair, Walks}
 use Rattle.sessions.specs.declared.reads.Walk.the-variants as walk
-use Rattle.sessions.proofs.StatusTurns.{closing-crlf, closing-hyphens, closing-other, closing-short}
-use Rattle.sessions.proofs.Steps.{walked, stopped}
+use Rattle.sessions.proofs.StatusTurns.{closing-crlf, closing-hyphens, closing-other}
+use Rattle.sessions.proofs.Steps.{read-stop, walked, stopped}
 use Rattle.sessions.proofs.imap.append_mail.Statement.{statement}
 use Rattle.sessions.proofs.imap.append_mail.Tie as tie
 
@@ -58,19 +58,23 @@ returns-2 c = walked (went (c .before .before .before .before)) (closing-crlf (c
 returns-3 : tie.Need-returns-3
 returns-3 c =
     let called = c .before .before .before in
-    walked (went (called .before .before)) (closing-hyphens (rw (c .before .enum-told2 .given .1) at (called .two-bytes .ensures)) (c .stopped .ensures))
+    let hyphens = rw (c .before .enum-told2 .given .1) at (called .two-bytes .ensures) in
+    walked (went (called .before .before)) (closing-hyphens hyphens (c .stopped .ensures))
 
 -- other bytes: refusal 8
 returns-4 : tie.Need-returns-4
 returns-4 c =
     let called = c .before .before .before in
-    walked (went (called .before .before)) (closing-other (rw (c .before .enum-told3 .given .1) at (called .two-bytes .ensures)) (c .stopped2 .ensures))
+    let other = rw (c .before .enum-told3 .given .1) at (called .two-bytes .ensures) in
+    walked (went (called .before .before)) (closing-other other (c .stopped2 .ensures))
 
 -- they are not there
 returns-5 : tie.Need-returns-5
+unfolding wants
 returns-5 c =
     let called = c .before .before .before .before in
-    walked (went (called .before .before)) (closing-short (rw (c .before .before .o .given .1) at (called .two-bytes .ensures)) (c .stopped3 .ensures))
+    let short = rw (c .before .before .o .given .1) at (called .two-bytes .ensures) in
+    walked (went (called .before .before)) (read-stop closing short (c .stopped3 .ensures))
 
 pub append-mail-spec : {M : Type 1} → statement M
 append-mail-spec =

@@ -5,14 +5,14 @@ use native.Mathlib.Omega.{arith}
 use borrow.Author.Needs.{needs}
 use Rattle.reading.specs.Reading.{crlf}
 use Rattle.rules.specs.Mail.{hyphens, starts, popped}
-use Rattle.rules.specs.Phases.{reads, content, between}
+use Rattle.rules.specs.Phases.{reads, content, between, wants}
 use Rattle.rules.specs.declared.Mail.{Mail}
 use Rattle.rules.specs.declared.Mail.the-variants.{Smtp}
 use Rattle.sessions.specs.Walks.{Pair, Walks, piece}
 use Rattle.sessions.specs.declared.reads.Walk.the-variants as walk
-use Rattle.sessions.proofs.MailTurns.{between-crlf, between-hyphens, between-other, between-short}
+use Rattle.sessions.proofs.MailTurns.{between-crlf, between-hyphens, between-other}
 use Rattle.sessions.proofs.Parting.{parted-stop, parted-next, parted-closed}
-use Rattle.sessions.proofs.Steps.{walked, stopped}
+use Rattle.sessions.proofs.Steps.{read-stop, walked, stopped}
 use Rattle.sessions.proofs.multi.content.Statement.{statement}
 use Rattle.sessions.proofs.multi.content.Tie as tie
 
@@ -76,10 +76,11 @@ returns-4 c =
 
 -- they are not there
 returns-5 : tie.Need-returns-5
+unfolding wants
 returns-5 c =
     let called = c .before .before .before .before in
     let short = rw (c .before .before .o .given .1) at (called .two-bytes .ensures) in
-    λ m. parted-stop (popped m) (λ os f. walked (went (called .before .before) m os) (between-short m _ os short (c .stopped2 .ensures)))
+    λ m. parted-stop (popped m) (λ os f. walked (went (called .before .before) m os) (read-stop (between m _ os) short (c .stopped2 .ensures)))
 
 pub content-spec : {M : Type 1} → statement M
 content-spec =

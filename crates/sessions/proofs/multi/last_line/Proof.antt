@@ -1,53 +1,53 @@
--- `sessions::multi::last_line` meets its contract. Assumes nothing.
-use mathlib.Core.Path.{sym, _∙_}
+-- `sessions::multi::last_line` meets its contract: a dash line, or the dot line where the mail has one. Assumes nothing.
+use mathlib.Core.Path.{_≡_, sym, _∙_}
+use mathlib.Core.Bool.{false}
 use borrow.Author.Needs.{needs}
+use Rattle.fields.specs.Common.{part, dashBdry}
 use Rattle.rules.specs.Mail.{lastLine}
+use Rattle.sessions.specs.Walks.{piece}
 use Rattle.sessions.proofs.MailTurns.{last-dash}
 use Rattle.sessions.proofs.Readings.{piece-part}
 use Rattle.sessions.proofs.multi.last_line.Statement.{statement}
 use Rattle.sessions.proofs.multi.last_line.Tie as tie
 
--- a way out, behind struct_known, dash_bdry, if1
-returns : tie.Need-returns
-returns c =
-    let start = c .before .before .before .before .before .before in
-    last-dash _ _ _ (rw (piece-part (start .args .s .now) (start .args .outer)) at (sym (c .before .dash-bdry .ensures) ∙ c .if1 .taken))
+-- behind `dash_bdry`'s answer: the function's start
+abbrev start : tie.After-dash-bdry → tie.Start
+start c = c .before .before .before .before .before
 
--- a way out, behind struct_known, dash_bdry, if1 Smtp, equals
+-- there: what was answered of the outermost boundary
+asked : (c : tie.After-dash-bdry) →
+    let a = start c .args in
+    dashBdry (piece (a .s .now) (a .outer)) (part (a .s .now) (a .at) (a .end)) ≡ c .dash-bdry .result
+asked c = rw (piece-part (start c .args .s .now) (start c .args .outer)) at (sym (c .dash-bdry .ensures))
+
+-- ---- a dash line
+returns : tie.Need-returns
+returns c = last-dash _ _ _ (asked (c .before) ∙ c .if1 .taken)
+
+-- ---- no dash line
+no-dash : (c : tie.Else1) →
+    let a = start (c .before) .args in
+    dashBdry (piece (a .s .now) (a .outer)) (part (a .s .now) (a .at) (a .end)) ≡ false
+no-dash c = asked (c .before) ∙ c .if1 .left
+
+-- SMTP: the dot line
 returns-2 : tie.Need-returns-2
 unfolding lastLine
 returns-2 c =
-    let after-enum-told = c .before .before .before in
-    let enum-told-is = after-enum-told .enum-told .given .1 in
-    let after-if1 = after-enum-told .before .before in
-    let if1-left = after-if1 .if1 .left in
-    let after-dash-bdry = after-if1 .before in
-    let dash-bdry-ensures = after-dash-bdry .dash-bdry .ensures in
-    let start = after-dash-bdry .before .before .before .before .before in
-    rw (enum-told-is, rw (piece-part (start .args .s .now) (start .args .outer)) at (sym dash-bdry-ensures ∙ if1-left)) (c .equals .ensures)
+    let told = c .before .before .before in
+    rw (told .enum-told .given .1, no-dash (told .before .before)) (c .equals .ensures)
 
--- a way out, behind struct_known, dash_bdry, if1 Pop3, equals2
+-- POP3: the dot line
 returns-3 : tie.Need-returns-3
 unfolding lastLine
 returns-3 c =
-    let after-enum-told2 = c .before .before .before in
-    let enum-told2-is = after-enum-told2 .enum-told2 .given .1 in
-    let after-if1 = after-enum-told2 .before .before in
-    let if1-left = after-if1 .if1 .left in
-    let after-dash-bdry = after-if1 .before in
-    let dash-bdry-ensures = after-dash-bdry .dash-bdry .ensures in
-    let start = after-dash-bdry .before .before .before .before .before in
-    rw (enum-told2-is, rw (piece-part (start .args .s .now) (start .args .outer)) at (sym dash-bdry-ensures ∙ if1-left)) (c .equals2 .ensures)
+    let told = c .before .before .before in
+    rw (told .enum-told2 .given .1, no-dash (told .before .before)) (c .equals2 .ensures)
 
--- a way out, behind struct_known, dash_bdry, if1 Imap(_, _)
+-- IMAP: none
 returns-4 : tie.Need-returns-4
 unfolding lastLine
-returns-4 c =
-    let if1-left = c .before .before .if1 .left in
-    let after-dash-bdry = c .before .before .before in
-    let dash-bdry-ensures = after-dash-bdry .dash-bdry .ensures in
-    let start = after-dash-bdry .before .before .before .before .before in
-    rw (c .enum-told3 .given .1, rw (piece-part (start .args .s .now) (start .args .outer)) at (sym dash-bdry-ensures ∙ if1-left))
+returns-4 c = rw (c .enum-told3 .given .1, no-dash (c .before .before))
 
 pub last-line-spec : {M : Type 1} → statement M
 last-line-spec =
@@ -60,20 +60,20 @@ last-line-spec =
     (λ c. search needs)
     (λ c. search needs)
     (λ c. search needs)
-    (λ c _. search needs)
+    (λ c κs. search needs)
     returns
     (λ c. search needs)
     (λ c. search needs)
     (λ c. search needs)
     (λ c. search needs)
     (λ c. search needs)
-    (λ c _. search needs)
+    (λ c κs. search needs)
     (λ c. search needs)
     (λ c. search needs)
     (λ c. search needs)
     (λ c. search needs)
     (λ c. search needs)
-    (λ c _. search needs)
+    (λ c κs. search needs)
     (λ c. search needs)
     returns-2
     returns-3

@@ -21,12 +21,17 @@ start c = c .before .before .before .before .before .before .before .before
 -- there: the body's start is listed
 started : (c : tie.After-next) →
     let a = start c .args in
-    Notes (a .table .now) (a .log) (ev bodyStart (a .at) 0 Unsaid) (noted.Written (c .next .given .0 .0)) (c .before .before .before .before .note .last .0)
+    let table = c .before .before .before .before .note .last .0 in
+    Notes (a .table .now) (a .log) (ev bodyStart (a .at) 0 Unsaid) (noted.Written (c .next .given .0 .0)) table
 started c = rw (c .next .given .1) at (c .before .before .before .before .note .ensures)
 
--- behind `delimited`'s answer `To(e)`: the content's delimiter ends at e
+-- behind `delimited`'s answer `To(e)`: where the start was listed
+abbrev listed : tie.After-e → tie.After-next
+listed c = c .before .before .before .before
+
+-- there: the content's delimiter ends at e
 delimiter-to : (c : tie.After-e) →
-    let a = c .before .before .before .before .before .before .before .before .before .before .before .before .args in
+    let a = start (listed c) .args in
     Ends (delimiter (piece (a .s .now) (a .b))) (a .s .now) (a .at) (c .e .given .0 .0)
 delimiter-to c = rw (c .e .given .1) at (c .before .before .delimited .ensures)
 
@@ -62,13 +67,14 @@ returns-3 : tie.Need-returns-3
 unfolding wants
 returns-3 c =
     let taken = c .before .before .before .before .before .before .before in
-    let told = taken .before .before .before .before in
-    let s = start told .args .s .now in
-    let b = start told .args .b in
+    let begun = start (listed taken) in
+    let s = begun .args .s .now in
+    let b = begun .args .b in
     let delimiter = delimiter-to taken in
-    let long = piece-length s b (start told .pre .2) in
-    λ m os. note [] (reads (content m _ _ os)) (started told)
-    (read-as (content m _ (piece s b) os) delimiter (content-all delimiter m _ _ os _ (omega (arith, c .before .before .before .before .less .ensures, long)))
+    let less = c .before .before .before .before .less .ensures in
+    let long = piece-length s b (begun .pre .2) in
+    λ m os. note [] (reads (content m _ _ os)) (started (listed taken))
+    (read-as (content m _ (piece s b) os) delimiter (content-all delimiter m _ _ os _ (omega (arith, less, long)))
     (c .before .before .hold .ensures s (λ p. reads (between m _ os)) (delimiter .within)))
 
 pub mime-body-spec : {M : Type 1} → statement M

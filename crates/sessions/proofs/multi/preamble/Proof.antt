@@ -8,9 +8,8 @@ use Rattle.rules.specs.Phases.{reads, opened, preamble, then, wants}
 use Rattle.rules.specs.declared.Mail.{Mail}
 use Rattle.sessions.specs.Walks.{Ends, Pair, Walks, piece}
 use Rattle.sessions.specs.declared.reads.Walk.the-variants as walk
-use Rattle.sessions.proofs.MailTurns.{read-as, opened-crlf, opened-hyphens, opened-other, opened-short}
-use Rattle.sessions.proofs.Parting.{preamble-any}
-use Rattle.sessions.proofs.Steps.{here, read-stop, walked}
+use Rattle.sessions.proofs.MailTurns.{preamble-on, opened-crlf, opened-hyphens, opened-other}
+use Rattle.sessions.proofs.Steps.{read-stop, walked}
 use Rattle.sessions.proofs.multi.preamble.Statement.{statement}
 use Rattle.sessions.proofs.multi.preamble.Tie as tie
 
@@ -29,8 +28,7 @@ went : (c : tie.After-p) (m : Mail) (os : List (List ℕ)) (t : List ℕ) →
     let a = start c .args in
     let b = piece (a .s .now) (a .b) in
     Walks (a .s .now) t (a .log) (a .at) (then [] (preamble m b os)) (λ q. reads (opened m b os)) (walk.Went (c .p .given .0 .0) (a .log)) t
-unfolding wants
-went c m os t = read-as (preamble m _ os) (delimiter-to c) (preamble-any m _ os _ _) (here _ (delimiter-to c .within))
+went c m os t = preamble-on m _ os (delimiter-to c)
 
 -- ---- there is no delimiter
 returns : tie.Need-returns
@@ -38,7 +36,8 @@ unfolding wants
 returns c =
     let called = c .before .before .before .before in
     let a = called .before .before .args in
-    λ m os t. read-stop (preamble m (piece (a .s .now) (a .b)) os) (rw (c .before .before .o .given .1) at (called .delimited .ensures)) (c .stopped .ensures)
+    let short = rw (c .before .before .o .given .1) at (called .delimited .ensures) in
+    λ m os t. read-stop (preamble m (piece (a .s .now) (a .b)) os) short (c .stopped .ensures)
 
 -- ---- the two bytes behind it
 two-bytes-requires : tie.Need-two-bytes-requires
@@ -54,7 +53,9 @@ add-t13 : tie.Need-add-t13
 add-t13 c = omega (arith, crlf-at c .ends .within)
 
 returns-2 : tie.Need-returns-2
-returns-2 c = λ m os t. walked (went (c .before .before .before .before) m os t) (opened-crlf m _ os (crlf-at c))
+returns-2 c =
+    let told = c .before .before .before .before in
+    λ m os t. walked (went told m os t) (opened-crlf m _ os (crlf-at c))
 
 -- two hyphens: refusal 6
 returns-3 : tie.Need-returns-3
@@ -72,10 +73,11 @@ returns-4 c =
 
 -- they are not there
 returns-5 : tie.Need-returns-5
+unfolding wants
 returns-5 c =
     let called = c .before .before .before .before in
     let short = rw (c .before .before .o2 .given .1) at (called .two-bytes .ensures) in
-    λ m os t. walked (went (called .before .before) m os t) (opened-short m _ os short (c .stopped4 .ensures))
+    λ m os t. walked (went (called .before .before) m os t) (read-stop (opened m _ os) short (c .stopped4 .ensures))
 
 pub preamble-spec : {M : Type 1} → statement M
 preamble-spec =

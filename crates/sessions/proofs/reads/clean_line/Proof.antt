@@ -1,37 +1,44 @@
--- `sessions::reads::clean_line` meets its contract. Assumes nothing.
+-- `sessions::reads::clean_line` meets its contract: a line, and where its clean part ends. Assumes nothing.
+use Prim.Native.Nat.{_+_}
 use native.Mathlib.Omega.{arith}
 use borrow.Author.Needs.{needs}
+use Rattle.reading.specs.Reading.{aLine}
+use Rattle.sessions.specs.Walks.{Ends, Cleaned}
 use Rattle.sessions.proofs.Lines.{cleaned}
 use Rattle.sessions.proofs.reads.clean_line.Statement.{statement}
 use Rattle.sessions.proofs.reads.clean_line.Tie as tie
 
--- the difference is not below 0, behind line To(e)
-sub-clean-end : tie.Need-sub-clean-end
-sub-clean-end c = omega (arith, (rw (c .before .e .given .1) at (c .before .before .before .line .ensures)) .on)
-
--- the part ends inside, behind line To(e)
-part-clean-end-end : tie.Need-part-clean-end-end
-part-clean-end-end c = (rw (c .before .e .given .1) at (c .before .before .before .line .ensures)) .within
-
--- the sum does not wrap, behind line To(e), clean_end
-add-t12 : tie.Need-add-t12
-add-t12 c =
-    let after-e = c .before .before .before in
-    let e-is = after-e .e .given .1 in
-    let line-ensures = after-e .before .before .line .ensures in
-    let line = cleaned (rw e-is at line-ensures) (c .clean-end .ensures) in omega (arith, line .within, line .ends .within)
-
--- a way out, behind line Stop(o)
+-- the line is short
 returns : tie.Need-returns
 returns c = rw (c .before .o .given .1) at (c .before .before .before .line .ensures)
 
--- a way out, behind line To(e), clean_end
+-- behind `line`'s answer `To(e)`: the function's start
+abbrev start : tie.After-e → tie.Start
+start c = c .before .before .before .before
+
+-- there: the line
+line-to : (c : tie.After-e) → Ends aLine (start c .args .s .now) (start c .args .at) (c .e .given .0 .0)
+line-to c = rw (c .e .given .1) at (c .before .before .line .ensures)
+
+-- ---- the part that `clean_end` looks at
+sub-clean-end : tie.Need-sub-clean-end
+sub-clean-end c = omega (arith, line-to (c .before) .on)
+
+part-clean-end-end : tie.Need-part-clean-end-end
+part-clean-end-end c = line-to (c .before) .within
+
+-- ---- behind its answer: the line, and where its clean part ends
+clean-to : (c : tie.After-clean-end) →
+    let told = c .before .before .before in
+    let a = start told .args in
+    Cleaned (a .s .now) (a .at) (a .at + c .clean-end .result) (told .e .given .0 .0)
+clean-to c = cleaned (line-to (c .before .before .before)) (c .clean-end .ensures)
+
+add-t12 : tie.Need-add-t12
+add-t12 c = omega (arith, clean-to c .within, clean-to c .ends .within)
+
 returns-2 : tie.Need-returns-2
-returns-2 c =
-    let after-e = c .before .before .before in
-    let e-is = after-e .e .given .1 in
-    let line-ensures = after-e .before .before .line .ensures in
-    cleaned (rw e-is at line-ensures) (c .clean-end .ensures)
+returns-2 c = clean-to c
 
 pub clean-line-spec : {M : Type 1} → statement M
 clean-line-spec =

@@ -1,35 +1,41 @@
--- `sessions::reads::line` meets its contract. Assumes nothing.
+-- `sessions::reads::line` meets its contract, by whether the line ends. Assumes nothing.
 use mathlib.Core.Path.{sym, _∙_}
+use Prim.Native.Nat.{_+_}
 use native.Mathlib.Omega.{arith}
 use borrow.Author.Needs.{needs}
 use Rattle.reading.proofs.Words.{rest-is}
 use Rattle.reading.specs.Reading.{aLine}
+use Rattle.sessions.specs.Walks.{Ends}
 use Rattle.sessions.proofs.Readings.{ends-at, stops-at}
 use Rattle.sessions.proofs.reads.line.Statement.{statement}
 use Rattle.sessions.proofs.reads.line.Tie as tie
 
--- the sum does not wrap, behind line_end At(n)
+-- ---- it does
+
+-- behind `line_end`'s answer `At(n)`: the function's start
+abbrev start : tie.After-n → tie.Start
+start c = c .before .before .before .before .before
+
+-- there: the line
+line-to : (c : tie.After-n) →
+    let a = start c .args in
+    Ends aLine (a .s .now) (a .at) (a .at + c .n .given .0 .0)
+line-to c =
+    let place = rw rest-is at (sym (c .before .before .line-end .ensures) ∙ c .n .given .1) in
+    ends-at aLine (start c .args .s .now) _ _ (start c .pre) place
+
 add-t10 : tie.Need-add-t10
-add-t10 c =
-    let after-line-end = c .before .before .before in
-    let line-end-ensures = after-line-end .line-end .ensures in
-    let start = after-line-end .before .before .before in
-    omega (arith, ends-at aLine (start .args .s .now) _ _ (start .pre) (rw rest-is at (sym line-end-ensures ∙ c .before .n .given .1)) .within)
+add-t10 c = omega (arith, line-to (c .before) .within)
 
--- a way out, behind line_end At(n)
 returns : tie.Need-returns
-returns c =
-    let after-line-end = c .before .before .before in
-    let line-end-ensures = after-line-end .line-end .ensures in
-    let start = after-line-end .before .before .before in
-    ends-at aLine (start .args .s .now) _ _ (start .pre) (rw rest-is at (sym line-end-ensures ∙ c .before .n .given .1))
+returns c = line-to (c .before)
 
--- a way out, behind line_end Nowhere
+-- ---- it does not
 returns-2 : tie.Need-returns-2
 returns-2 c =
-    let line-end-ensures = c .before .before .line-end .ensures in
-    let start = c .before .before .before .before .before in
-    stops-at aLine (start .args .s .now) _ (rw rest-is at (sym line-end-ensures ∙ c .enum-told .given .1))
+    let called = c .before .before in
+    let s = called .before .before .before .args .s .now in
+    stops-at aLine s _ (rw rest-is at (sym (called .line-end .ensures) ∙ c .enum-told .given .1))
 
 pub line-spec : {M : Type 1} → statement M
 line-spec =
@@ -38,7 +44,7 @@ line-spec =
     (λ c. search needs)
     (λ c. search needs)
     (λ c. search needs)
-    (λ c _. search needs)
+    (λ c κs. search needs)
     (λ c. search needs)
     add-t10
     (λ c. search needs)

@@ -1,58 +1,65 @@
--- `sessions::smtp::login` meets its contract. Assumes nothing.
+-- `sessions::smtp::login` meets its contract: user line, password line, and a line tried as sender. Assumes nothing.
 use native.Mathlib.Omega.{arith}
 use borrow.Author.Needs.{needs}
+use Rattle.events.specs.Events.{user, password}
+use Rattle.sessions.specs.Walks.{LinedTo}
 use Rattle.sessions.proofs.SmtpTurns.{user-stop, user-on, password-stop, password-on}
 use Rattle.sessions.proofs.smtp.login.Statement.{statement}
 use Rattle.sessions.proofs.smtp.login.Tie as tie
 
--- what `note_line` requires, behind note_line To(_, pass, n)
-note-line-requires-2 : tie.Need-note-line-requires-2
-note-line-requires-2 c _ =
-    let pass-is = c .before .before .pass .given .1 in
-    let note-line-ensures = c .before .before .before .before .before .before .note-line .ensures in
-    (omega arith, (rw pass-is at note-line-ensures) .line .ends .within)
+-- from behind the two answers `To(_, pass, n)` and `To(_, from, m)` back to the place before
+abbrev start : tie.After-pass → tie.Start
+start c = c .before .before .before .before .before .before .before .before
 
--- what `sender` requires, behind note_line To(_, pass, n), note_line2 To(_, from, m)
-sender-requires : tie.Need-sender-requires
-sender-requires c _ =
-    let from-is = c .before .before .from .given .1 in
-    let note-line2-ensures = c .before .before .before .before .before .before .note-line2 .ensures in
-    (omega arith, (rw from-is at note-line2-ensures) .line .ends .within)
+abbrev pass-of : tie.After-from → tie.After-pass
+pass-of c = c .before .before .before .before .before .before .before
 
--- a way out, behind note_line Stopped(a)
+-- the user line, listed
+user-to : (c : tie.After-pass) →
+    let a = start c .args in
+    let g = c .pass .given .0 in
+    let table = c .before .before .before .before .note-line .last .1 .1 .1 .0 in
+    LinedTo (a .s .now) (a .table .now) (a .log) (a .at) user (g .0) (g .1 .0) (g .1 .1 .0) table
+user-to c = rw (c .pass .given .1) at (c .before .before .before .before .note-line .ensures)
+
+-- the password line, listed behind it
+password-to : (c : tie.After-from) →
+    let pass = pass-of c in
+    let p = pass .pass .given .0 in
+    let g = c .from .given .0 in
+    let table₀ = pass .before .before .before .before .note-line .last .1 .1 .1 .0 in
+    let table = c .before .before .before .before .note-line2 .last .1 .1 .1 .0 in
+    LinedTo (start pass .args .s .now) table₀ (p .1 .1 .0) (p .1 .0) password (g .0) (g .1 .0) (g .1 .1 .0) table
+password-to c = rw (c .from .given .1) at (c .before .before .before .before .note-line2 .ensures)
+
+-- ---- the user line stopped
 returns : tie.Need-returns
-returns c =
-    let note-line-ensures = c .before .before .before .before .before .note-line .ensures in
-    user-stop (rw (c .before .a .given .1) at note-line-ensures)
+returns c = user-stop (rw (c .before .a .given .1) at (c .before .before .before .before .before .note-line .ensures))
 
--- a way out, behind note_line To(_, pass, n), note_line2 Stopped(a)
+-- ---- the password line
+note-line-requires-2 : tie.Need-note-line-requires-2
+note-line-requires-2 c κs = (omega arith, user-to (c .before .before) .line .ends .within)
+
+-- it stopped
 returns-2 : tie.Need-returns-2
 returns-2 c =
-    let after-note-line2 = c .before .before .before .before .before in
-    let note-line2-ensures = after-note-line2 .note-line2 .ensures in
-    let after-pass = after-note-line2 .before .before .before in
-    let pass-is = after-pass .pass .given .1 in
-    let note-line-ensures = after-pass .before .before .before .before .note-line .ensures in
-    user-on (rw pass-is at note-line-ensures) (password-stop (rw (c .before .a2 .given .1) at note-line2-ensures))
+    let called = c .before .before .before .before .before in
+    user-on (user-to (called .before .before .before)) (password-stop (rw (c .before .a2 .given .1) at (called .note-line2 .ensures)))
 
--- a way out, behind note_line To(_, pass, n), note_line2 To(_, from, m), sender
+-- ---- the line tried as sender
+sender-requires : tie.Need-sender-requires
+sender-requires c κs = (omega arith, password-to (c .before .before) .line .ends .within)
+
 returns-3 : tie.Need-returns-3
 returns-3 c =
-    let sender-ensures = c .before .before .sender .ensures in
-    let after-from = c .before .before .before .before .before in
-    let from-is = after-from .from .given .1 in
-    let after-note-line2 = after-from .before .before .before .before in
-    let note-line2-ensures = after-note-line2 .note-line2 .ensures in
-    let after-pass = after-note-line2 .before .before .before in
-    let pass-is = after-pass .pass .given .1 in
-    let note-line-ensures = after-pass .before .before .before .before .note-line .ensures in
-    user-on (rw pass-is at note-line-ensures) (password-on (rw from-is at note-line2-ensures) sender-ensures)
+    let told = c .before .before .before .before .before in
+    user-on (user-to (pass-of told)) (password-on (password-to told) (c .before .before .sender .ensures))
 
 pub login-spec : {M : Type 1} → statement M
 login-spec =
     tie.close
     (tie.spec
-    (λ c _. search needs)
+    (λ c κs. search needs)
     (λ c. search needs)
     (λ c. search needs)
     note-line-requires-2

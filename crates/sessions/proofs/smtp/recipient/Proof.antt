@@ -1,63 +1,61 @@
--- `sessions::smtp::recipient` meets its contract. Assumes nothing.
-use mathlib.Core.Path.{sym, _∙_}
-use mathlib.Core.List.{[]}
+-- `sessions::smtp::recipient` meets its contract, by whether the line holds a recipient. Assumes nothing.
+use mathlib.Core.Path.{_≡_, sym, _∙_}
+use Prim.Native.Nat.{_+_, _-_, _≤_}
 use native.Mathlib.Omega.{arith}
 use borrow.Author.Needs.{needs}
-use Rattle.rules.specs.Phases.{reads, recipient}
-use Rattle.rules.specs.Smtp.{byRecipient}
-use Rattle.sessions.proofs.SmtpTurns.{to-room}
-use Rattle.sessions.proofs.Steps.{here, stop, note, note-stop}
+use Rattle.fields.specs.Common.{part}
+use Rattle.fields.specs.Smtp.{rcptTo}
+use Rattle.fields.specs.declared.smtp.Address.the-variants.{Given}
+use Rattle.sessions.proofs.SmtpTurns.{to-room, recipient-none, recipient-full, recipient-some}
 use Rattle.sessions.proofs.smtp.recipient.Statement.{statement}
 use Rattle.sessions.proofs.smtp.recipient.Tie as tie
 
--- the sum does not wrap, behind rcpt_to Given(o, n)
-add-note : tie.Need-add-note
-add-note c =
-    let o-is = c .before .before .o .given .1 in
-    let after-rcpt-to = c .before .before .before .before in
-    let rcpt-to-ensures = after-rcpt-to .rcpt-to .ensures in
-    let start = after-rcpt-to .before .before .before .before in
-    omega (arith, to-room (start .args .s .now) (start .args .at) (start .args .end) (sym rcpt-to-ensures ∙ o-is))
-
--- what `note` requires, behind rcpt_to Given(o, n)
-note-requires : tie.Need-note-requires
-note-requires c _ =
-    let o-is = c .before .before .o .given .1 in
-    let after-rcpt-to = c .before .before .before .before in
-    let rcpt-to-ensures = after-rcpt-to .rcpt-to .ensures in
-    let start = after-rcpt-to .before .before .before .before in
-    let r = to-room (start .args .s .now) (start .args .at) (start .args .end) (sym rcpt-to-ensures ∙ o-is) in (omega arith, omega arith)
-
--- a way out, behind rcpt_to Missing, stopped
+-- ---- there is none: refusal 5
 returns : tie.Need-returns
-unfolding byRecipient
 returns c =
-    let rcpt-to-ensures = c .before .before .before .rcpt-to .ensures in
-    rw (sym rcpt-to-ensures ∙ c .before .enum-told .given .1) (stop (c .stopped .ensures))
+    let called = c .before .before .before in
+    recipient-none _ (sym (called .rcpt-to .ensures) ∙ c .before .enum-told .given .1) (c .stopped .ensures)
 
--- a way out, behind rcpt_to Given(o, n), note Stopped(a)
+-- ---- there is one
+
+-- behind `rcpt_to`'s answer `Given(o, n)`: the function's start
+abbrev start : tie.After-o → tie.Start
+start c = c .before .before .before .before .before .before
+
+-- there: the line's recipient
+recipient-at : (c : tie.After-o) →
+    let a = start c .args in
+    let g = c .o .given .0 in
+    rcptTo (part (a .s .now) (a .at) (a .end)) ≡ Given (g .0) (g .1 .0)
+recipient-at c = sym (c .before .before .rcpt-to .ensures) ∙ c .o .given .1
+
+-- there: it lies inside the line
+room : (c : tie.After-o) →
+    let a = start c .args in
+    let g = c .o .given .0 in
+    g .0 + g .1 .0 ≤ a .end - a .at
+room c = to-room (start c .args .s .now) (start c .args .at) (start c .args .end) (recipient-at c)
+
+add-note : tie.Need-add-note
+add-note c = omega (arith, room (c .before .before))
+
+note-requires : tie.Need-note-requires
+note-requires c κs =
+    let fits = room (c .before .before) in
+    (omega arith, omega arith)
+
+-- its event finds no slot
 returns-2 : tie.Need-returns-2
-unfolding byRecipient
 returns-2 c =
-    let after-note = c .before .before .before .before .before in
-    let note-ensures = after-note .note .ensures in
-    let after-o = after-note .before .before .before in
-    let o-is = after-o .o .given .1 in
-    let rcpt-to-ensures = after-o .before .before .rcpt-to .ensures in
-    rw (sym rcpt-to-ensures ∙ o-is) (note-stop [] (reads recipient) (rw (c .before .a .given .1) at note-ensures))
+    let called = c .before .before .before .before .before in
+    recipient-full _ (recipient-at (called .before .before .before)) (rw (c .before .a .given .1) at (called .note .ensures))
 
--- a way out, behind rcpt_to Given(o, n), note Written(next)
+-- its event is listed
 returns-3 : tie.Need-returns-3
-unfolding byRecipient
 returns-3 c =
-    let after-note = c .before .before .before .before .before in
-    let note-ensures = after-note .note .ensures in
-    let after-o = after-note .before .before .before in
-    let o-is = after-o .o .given .1 in
-    let after-rcpt-to = after-o .before .before in
-    let rcpt-to-ensures = after-rcpt-to .rcpt-to .ensures in
-    let start = after-rcpt-to .before .before .before .before in
-    rw (sym rcpt-to-ensures ∙ o-is) (note [] (reads recipient) (rw (c .before .next .given .1) at note-ensures) (here (start .args .to) (omega arith)))
+    let called = c .before .before .before .before .before in
+    let told = called .before .before .before in
+    recipient-some _ (recipient-at told) (rw (c .before .next .given .1) at (called .note .ensures)) (start told .pre .3)
 
 pub recipient-spec : {M : Type 1} → statement M
 recipient-spec =
@@ -66,9 +64,9 @@ recipient-spec =
     (λ c. search needs)
     (λ c. search needs)
     (λ c. search needs)
-    (λ c _. search needs)
+    (λ c κs. search needs)
     (λ c. search needs)
-    (λ c _. search needs)
+    (λ c κs. search needs)
     (λ c. search needs)
     add-note
     note-requires

@@ -1,35 +1,33 @@
--- `sessions::smtp::sender` meets its contract. Assumes nothing.
+-- `sessions::smtp::sender` meets its contract: a line, tried as sender. Assumes nothing.
 use native.Mathlib.Omega.{arith}
 use borrow.Author.Needs.{needs}
 use Rattle.rules.specs.Phases.{wants, sender}
+use Rattle.sessions.specs.Walks.{Cleaned}
 use Rattle.sessions.proofs.SmtpTurns.{sender-tried}
 use Rattle.sessions.proofs.Steps.{read-stop}
 use Rattle.sessions.proofs.smtp.sender.Statement.{statement}
 use Rattle.sessions.proofs.smtp.sender.Tie as tie
 
--- what `tried` requires, behind clean_line To(end, e)
-tried-requires : tie.Need-tried-requires
-tried-requires c κs =
-    let end-is = c .before .before .end .given .1 in
-    let clean-line-ensures = c .before .before .before .before .clean-line .ensures in
-    let line = rw end-is at clean-line-ensures in (omega arith, line .from, line .within, line .ends .within)
+-- behind `clean_line`'s answer `To(end, e)`: the line
+line-to : (c : tie.After-end) →
+    let a = c .before .before .before .before .before .args in
+    let g = c .end .given .0 in
+    Cleaned (a .s .now) (a .at) (g .0) (g .1 .0)
+line-to c = rw (c .end .given .1) at (c .before .before .clean-line .ensures)
 
--- a way out, behind clean_line Stop(o), stopped
+-- the line is short
 returns : tie.Need-returns
 unfolding wants
-returns c =
-    let o-is = c .before .before .o .given .1 in
-    let clean-line-ensures = c .before .before .before .before .clean-line .ensures in
-    read-stop sender (rw o-is at clean-line-ensures) (c .stopped .ensures)
+returns c = read-stop sender (rw (c .before .before .o .given .1) at (c .before .before .before .before .clean-line .ensures)) (c .stopped .ensures)
 
--- a way out, behind clean_line To(end, e), tried
+-- ---- it is tried
+tried-requires : tie.Need-tried-requires
+tried-requires c κs =
+    let line = line-to (c .before .before) in
+    (omega arith, line .from, line .within, line .ends .within)
+
 returns-2 : tie.Need-returns-2
-returns-2 c =
-    let tried-ensures = c .before .before .tried .ensures in
-    let after-end = c .before .before .before .before .before in
-    let end-is = after-end .end .given .1 in
-    let clean-line-ensures = after-end .before .before .clean-line .ensures in
-    sender-tried (rw end-is at clean-line-ensures) tried-ensures
+returns-2 c = sender-tried (line-to (c .before .before .before .before .before)) (c .before .before .tried .ensures)
 
 pub sender-spec : {M : Type 1} → statement M
 sender-spec =

@@ -1,64 +1,62 @@
--- `sessions::smtp::tried` meets its contract. Assumes nothing.
-use mathlib.Core.Path.{sym, _∙_}
-use mathlib.Core.List.{[]}
+-- `sessions::smtp::tried` meets its contract, by whether the line holds a sender. Assumes nothing.
+use mathlib.Core.Path.{_≡_, sym, _∙_}
+use Prim.Native.Nat.{_+_, _-_, _≤_}
 use native.Mathlib.Omega.{arith}
 use borrow.Author.Needs.{needs}
-use Rattle.rules.specs.Phases.{reads, recipient}
-use Rattle.rules.specs.Smtp.{given}
-use Rattle.sessions.proofs.SmtpTurns.{from-room}
-use Rattle.sessions.proofs.Steps.{here, note, note-stop}
+use Rattle.fields.specs.Common.{part}
+use Rattle.fields.specs.Smtp.{mailFrom}
+use Rattle.fields.specs.declared.smtp.Address.the-variants.{Given}
+use Rattle.sessions.proofs.SmtpTurns.{from-room, tried-none, tried-full, tried-some}
 use Rattle.sessions.proofs.smtp.tried.Statement.{statement}
 use Rattle.sessions.proofs.smtp.tried.Tie as tie
 
--- the sum does not wrap, behind mail_from Given(o, n)
-add-note : tie.Need-add-note
-add-note c =
-    let o-is = c .before .before .o .given .1 in
-    let after-mail-from = c .before .before .before .before in
-    let mail-from-ensures = after-mail-from .mail-from .ensures in
-    let start = after-mail-from .before .before .before .before in
-    omega (arith, from-room (start .args .s .now) (start .args .at) (start .args .end) (sym mail-from-ensures ∙ o-is))
-
--- what `note` requires, behind mail_from Given(o, n)
-note-requires : tie.Need-note-requires
-note-requires c _ =
-    let o-is = c .before .before .o .given .1 in
-    let after-mail-from = c .before .before .before .before in
-    let mail-from-ensures = after-mail-from .mail-from .ensures in
-    let start = after-mail-from .before .before .before .before in
-    let r = from-room (start .args .s .now) (start .args .at) (start .args .end) (sym mail-from-ensures ∙ o-is) in (omega arith, omega arith)
-
--- a way out, behind mail_from Missing
+-- ---- there is none
 returns : tie.Need-returns
-unfolding given
 returns c =
-    let mail-from-ensures = c .before .before .mail-from .ensures in
-    let start = c .before .before .before .before .before .before in
-    rw (sym mail-from-ensures ∙ c .enum-told .given .1) (here (start .args .to) (omega arith))
+    let called = c .before .before in
+    let start = called .before .before .before .before in
+    tried-none _ (sym (called .mail-from .ensures) ∙ c .enum-told .given .1) (start .pre .3)
 
--- a way out, behind mail_from Given(o, n), note Stopped(a)
+-- ---- there is one
+
+-- behind `mail_from`'s answer `Given(o, n)`: the function's start
+abbrev start : tie.After-o → tie.Start
+start c = c .before .before .before .before .before .before
+
+-- there: the line's sender
+sender-at : (c : tie.After-o) →
+    let a = start c .args in
+    let g = c .o .given .0 in
+    mailFrom (part (a .s .now) (a .at) (a .end)) ≡ Given (g .0) (g .1 .0)
+sender-at c = sym (c .before .before .mail-from .ensures) ∙ c .o .given .1
+
+-- there: it lies inside the line
+room : (c : tie.After-o) →
+    let a = start c .args in
+    let g = c .o .given .0 in
+    g .0 + g .1 .0 ≤ a .end - a .at
+room c = from-room (start c .args .s .now) (start c .args .at) (start c .args .end) (sender-at c)
+
+add-note : tie.Need-add-note
+add-note c = omega (arith, room (c .before .before))
+
+note-requires : tie.Need-note-requires
+note-requires c κs =
+    let fits = room (c .before .before) in
+    (omega arith, omega arith)
+
+-- its event finds no slot
 returns-2 : tie.Need-returns-2
-unfolding given
 returns-2 c =
-    let after-note = c .before .before .before .before .before in
-    let note-ensures = after-note .note .ensures in
-    let after-o = after-note .before .before .before in
-    let o-is = after-o .o .given .1 in
-    let mail-from-ensures = after-o .before .before .mail-from .ensures in
-    rw (sym mail-from-ensures ∙ o-is) (note-stop [] (reads recipient) (rw (c .before .a .given .1) at note-ensures))
+    let called = c .before .before .before .before .before in
+    tried-full _ (sender-at (called .before .before .before)) (rw (c .before .a .given .1) at (called .note .ensures))
 
--- a way out, behind mail_from Given(o, n), note Written(next)
+-- its event is listed
 returns-3 : tie.Need-returns-3
-unfolding given
 returns-3 c =
-    let after-note = c .before .before .before .before .before in
-    let note-ensures = after-note .note .ensures in
-    let after-o = after-note .before .before .before in
-    let o-is = after-o .o .given .1 in
-    let after-mail-from = after-o .before .before in
-    let mail-from-ensures = after-mail-from .mail-from .ensures in
-    let start = after-mail-from .before .before .before .before in
-    rw (sym mail-from-ensures ∙ o-is) (note [] (reads recipient) (rw (c .before .next .given .1) at note-ensures) (here (start .args .to) (omega arith)))
+    let called = c .before .before .before .before .before in
+    let told = called .before .before .before in
+    tried-some _ (sender-at told) (rw (c .before .next .given .1) at (called .note .ensures)) (start told .pre .3)
 
 pub tried-spec : {M : Type 1} → statement M
 tried-spec =
@@ -67,7 +65,7 @@ tried-spec =
     (λ c. search needs)
     (λ c. search needs)
     (λ c. search needs)
-    (λ c _. search needs)
+    (λ c κs. search needs)
     (λ c. search needs)
     (λ c. search needs)
     add-note
