@@ -10,15 +10,21 @@ use Rattle.sessions.proofs.body.plain_mail.Tie as tie
 -- ---- SMTP and POP3: lines up to the dot line
 returns-2 : tie.Need-returns-2
 unfolding plainMail
-returns-2 c = rw (c .before .before .before .before .enum-told .given .1) (c .before .before .body .ensures Smtp)
+returns-2 c =
+    let told = c .before .before .before .before in
+    rw (told .enum-told .given .1) (c .before .before .body .ensures Smtp)
 
 returns-3 : tie.Need-returns-3
 unfolding plainMail
-returns-3 c = rw (c .before .before .before .before .enum-told2 .given .1) (c .before .before .body2 .ensures Pop3)
+returns-3 c =
+    let told = c .before .before .before .before in
+    rw (told .enum-told2 .given .1) (c .before .before .body2 .ensures Pop3)
 
 -- ---- IMAP: the literal began here or before
 sub-head : tie.Need-sub-head
-sub-head c = rw (c .before .mail .given .1) at (c .before .before .before .before .before .pre .2)
+sub-head c =
+    let start = c .before .before .before .before .before in
+    rw (c .before .mail .given .1) at (start .pre .2)
 
 -- the literal is smaller than the header: refusal 7
 returns : tie.Need-returns

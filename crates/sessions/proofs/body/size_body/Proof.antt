@@ -36,7 +36,9 @@ bytes-to c = rw (c .e .given .1) at (c .before .before .sized .ensures)
 
 -- ---- the body's start finds no slot
 returns-2 : tie.Need-returns-2
-returns-2 c = literal-full _ _ (rw (c .before .a .given .1) at (c .before .before .before .before .before .note .ensures))
+returns-2 c =
+    let called = c .before .before .before .before .before in
+    literal-full _ _ (rw (c .before .a .given .1) at (called .note .ensures))
 
 -- ---- nothing is left of the literal
 returns : tie.Need-returns

@@ -36,7 +36,9 @@ read-mail-requires c κs =
 
 -- it stopped
 returns : tie.Need-returns
-returns c = stopped (rw (c .before .a .given .1) at (c .before .before .before .before .before .read-mail .ensures))
+returns c =
+    let called = c .before .before .before .before .before in
+    stopped (rw (c .before .a .given .1) at (called .read-mail .ensures))
 
 -- ---- the two bytes behind it
 two-bytes-requires : tie.Need-two-bytes-requires

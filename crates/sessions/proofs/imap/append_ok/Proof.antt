@@ -21,7 +21,9 @@ line-to c = rw (c .e .given .1) at (c .before .before .line .ensures)
 -- the line is short
 returns-2 : tie.Need-returns-2
 unfolding wants
-returns-2 c = read-stop (offered _) (rw (c .before .before .o .given .1) at (c .before .before .before .before .line .ensures)) (c .stopped .ensures)
+returns-2 c =
+    let called = c .before .before .before .before in
+    read-stop (offered _) (rw (c .before .before .o .given .1) at (called .line .ensures)) (c .stopped .ensures)
 
 -- ---- the part that is looked at
 sub-has-colon : tie.Need-sub-has-colon

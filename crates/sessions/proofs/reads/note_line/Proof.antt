@@ -15,7 +15,9 @@ line-to c = rw (c .end .given .1) at (c .before .before .clean-line .ensures)
 
 -- ---- the line is short
 returns : tie.Need-returns
-returns c = lined-short _ _ _ _ _ (rw (c .before .before .o .given .1) at (c .before .before .before .before .clean-line .ensures)) (c .stopped .ensures)
+returns c =
+    let called = c .before .before .before .before in
+    lined-short _ _ _ _ _ (rw (c .before .before .o .given .1) at (called .clean-line .ensures)) (c .stopped .ensures)
 
 -- ---- its event
 sub-note : tie.Need-sub-note

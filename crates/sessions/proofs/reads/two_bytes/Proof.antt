@@ -28,7 +28,9 @@ part-equals-end : tie.Need-part-equals-end
 part-equals-end c = two-to (c .before) .within
 
 returns : tie.Need-returns
-returns c = pair-is _ _ (two-to (c .before .before .before .before .before)) (sym (c .before .equals .ensures) ∙ c .if1 .taken)
+returns c =
+    let told = c .before .before .before .before .before in
+    pair-is _ _ (two-to told) (sym (c .before .equals .ensures) ∙ c .if1 .taken)
 
 -- ---- no CRLF
 abbrev taken : tie.Else1 → tie.After-e

@@ -34,7 +34,9 @@ password-to c = rw (c .from .given .1) at (c .before .before .before .before .no
 
 -- ---- the user line stopped
 returns : tie.Need-returns
-returns c = user-stop (rw (c .before .a .given .1) at (c .before .before .before .before .before .note-line .ensures))
+returns c =
+    let called = c .before .before .before .before .before in
+    user-stop (rw (c .before .a .given .1) at (called .note-line .ensures))
 
 -- ---- the password line
 note-line-requires-2 : tie.Need-note-line-requires-2

@@ -18,7 +18,9 @@ line-to c = rw (c .end .given .1) at (c .before .before .clean-line .ensures)
 -- the line is short
 returns : tie.Need-returns
 unfolding wants
-returns c = read-stop sender (rw (c .before .before .o .given .1) at (c .before .before .before .before .clean-line .ensures)) (c .stopped .ensures)
+returns c =
+    let called = c .before .before .before .before in
+    read-stop sender (rw (c .before .before .o .given .1) at (called .clean-line .ensures)) (c .stopped .ensures)
 
 -- ---- it is tried
 tried-requires : tie.Need-tried-requires
@@ -27,7 +29,9 @@ tried-requires c κs =
     (omega arith, line .from, line .within, line .ends .within)
 
 returns-2 : tie.Need-returns-2
-returns-2 c = sender-tried (line-to (c .before .before .before .before .before)) (c .before .before .tried .ensures)
+returns-2 c =
+    let told = c .before .before .before .before .before in
+    sender-tried (line-to told) (c .before .before .tried .ensures)
 
 pub sender-spec : {M : Type 1} → statement M
 sender-spec =
