@@ -10,7 +10,7 @@ use borrow.Fn.Kinds.{In}
 use borrow.Fn.PlainCycle.{Measures, is, falls, and}
 use Rattle.fields.specs.Common.{unknown}
 use Rattle.reading.proofs.Words.{rest-is}
-use Rattle.rules.specs.Mail.{outermost, popped}
+use Rattle.rules.specs.Mail.{popped}
 use Rattle.rules.specs.Phases.{reads, head, preamble, then}
 use Rattle.sessions.specs.Walks.{Walks, Headers, piece, Lies, Within}
 use Rattle.sessions.specs.declared.header.Headed.the-variants as headed

@@ -1,14 +1,14 @@
--- `sessions::reads::sized` meets its contract. Assumes nothing.
+-- `sessions::reads::sized` meets its contract, by whether the bytes are there. Assumes nothing.
 use borrow.Author.Needs.{needs}
 use Rattle.sessions.proofs.Readings.{sized-ends, sized-stops}
 use Rattle.sessions.proofs.reads.sized.Statement.{statement}
 use Rattle.sessions.proofs.reads.sized.Tie as tie
 
--- a way out, behind if1
+-- they are
 returns : tie.Need-returns
 returns c = sized-ends _ _ _ (c .before .pre .0) (c .before .pre .1) (c .if1 .taken)
 
--- a way out, behind if1
+-- they are not
 returns-2 : tie.Need-returns-2
 returns-2 c = sized-stops _ _ _ (c .before .pre .1) (c .if1 .left)
 
