@@ -56,15 +56,23 @@ few n k h w =
     absurd (omega (arith, w .2 (omega (arith, ltb-true 20 k t)))))
     (λ f. ltb-false 20 k f)
 
--- digits put, and a byte behind them
-module _ (o : List ℕ) (at n : ℕ) {k : ℕ} (d : List ℕ) (room : at + 21 ≤ length o) (small : n < 18446744073709551616) (in-d : k ≤ length d) (w : Fewest 10 1 n k) where
-  pub digits-room : at + length (take k d) < length o
-  digits-room = omega (arith, length-take-le k d in-d, few n k small w)
+-- k bytes of d are the digits of a number of 64 bits, and o has room behind `at` for them and a byte
+pub record Spelt (o : List ℕ) (at n k : ℕ) (d : List ℕ) : Type 0 where
+  pub room : at + 21 ≤ length o
+  pub small : n < 18446744073709551616
+  pub within : k ≤ length d
+  pub fewest : Fewest 10 1 n k
+  pub is : take k d ≡ digits 10 k n
 
-  module _ {u : List ℕ} {r : ℕ} (is : take k d ≡ digits 10 k n) (p : Pasted o at (take k d) r u) where
+-- they are put, and a byte behind them
+module _ {o d : List ℕ} {at n k : ℕ} (w : Spelt o at n k d) where
+  pub digits-room : at + length (take k d) < length o
+  digits-room = omega (arith, w .room, length-take-le k d (w .within), few n k (w .small) (w .fewest))
+
+  module _ {u : List ℕ} {r : ℕ} (p : Pasted o at (take k d) r u) where
     pub word-end : r < length u
     word-end = omega (arith, digits-room, pasted-length p (omega (arith, digits-room)), p .end)
 
     pub word-put : (b : ℕ) → Pasted o at (word n b) (r + 1) (set u r b)
     unfolding word
-    word-put b = rw (is ∙ spells k 20 n (few n k small w) w) at (pasted-on p (omega arith) (pasted-one u r b word-end))
+    word-put b = rw (w .is ∙ spells k 20 n (few n k (w .small) (w .fewest)) (w .fewest)) at (pasted-on p (omega (arith, w .room)) (pasted-one u r b word-end))

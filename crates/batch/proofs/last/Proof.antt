@@ -4,12 +4,10 @@ use Rattle.batch.proofs.Laws.{last-shown}
 use Rattle.batch.proofs.last.Statement.{statement}
 use Rattle.batch.proofs.last.Tie as tie
 
--- a way out, behind put, out
 returns : tie.Need-returns
 returns c =
-    let put-ensures = c .before .before .put .ensures in
-    let start = c .before .before .before .before .before .before in
-    last-shown put-ensures (start .pre)
+    let put = c .before .before in
+    last-shown (put .put .ensures) (put .before .before .before .before .pre)
 
 pub last-spec : {M : Type 1} → statement M
 last-spec =

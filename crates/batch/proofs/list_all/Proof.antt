@@ -13,35 +13,27 @@ Inv-loop bytes₀ table₀ out₀ turns₀ bytes table out turns = (length bytes
 abbrev μ-loop : tie.MeasureT-loop
 μ-loop bytes₀ table₀ out₀ turns₀ bytes table out turns = turns
 
--- the index lies inside, in the loop behind next, bytes, out Case(n)
+-- ---- a case's text lies in the buffer
 slice-reshare-prefix-written : tie.Need-slice-reshare-prefix-written Inv-loop μ-loop
 slice-reshare-prefix-written c =
-    let next-ensures = c .before .before .before .before .before .before .before .before .before .next .ensures in
-    sized next-ensures (c .before .n .given .1)
+    let called = c .before .before .before .before .before .before .before .before .before in
+    sized (called .next .ensures) (c .before .n .given .1)
 
--- the index lies inside, in the loop behind next, bytes, out Case(n)
 slice-aggregate-written : tie.Need-slice-aggregate-written Inv-loop μ-loop
 slice-aggregate-written c =
-    let n-is = c .before .before .n .given .1 in
-    let after-next = c .before .before .before .before .before .before .before .before .before .before in
-    let next-last = after-next .next .last in
-    let next-ensures = after-next .next .ensures in
-    sym (length-take-le _ (next-last .1 .1 .0) (sized next-ensures n-is))
+    let called = c .before .before .before .before .before .before .before .before .before .before in
+    sym (length-take-le _ (called .next .last .1 .1 .0) (sized (called .next .ensures) (c .before .before .n .given .1)))
 
--- the index lies inside, in the loop behind next, bytes, out Last(n)
+-- ---- so does the last one
 slice-reshare-prefix-written-2 : tie.Need-slice-reshare-prefix-written-2 Inv-loop μ-loop
 slice-reshare-prefix-written-2 c =
-    let next-ensures = c .before .before .before .before .before .before .before .before .before .next .ensures in
-    sized next-ensures (c .before .n2 .given .1)
+    let called = c .before .before .before .before .before .before .before .before .before in
+    sized (called .next .ensures) (c .before .n2 .given .1)
 
--- the index lies inside, in the loop behind next, bytes, out Last(n)
 slice-aggregate-written-2 : tie.Need-slice-aggregate-written-2 Inv-loop μ-loop
 slice-aggregate-written-2 c =
-    let n2-is = c .before .before .n2 .given .1 in
-    let after-next = c .before .before .before .before .before .before .before .before .before .before in
-    let next-last = after-next .next .last in
-    let next-ensures = after-next .next .ensures in
-    sym (length-take-le _ (next-last .1 .1 .0) (sized next-ensures n2-is))
+    let called = c .before .before .before .before .before .before .before .before .before .before in
+    sym (length-take-le _ (called .next .last .1 .1 .0) (sized (called .next .ensures) (c .before .before .n2 .given .1)))
 
 pub list-all-spec : {M : Type 1} → statement M
 list-all-spec =

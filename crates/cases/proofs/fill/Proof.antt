@@ -1,4 +1,4 @@
--- `cases::fill` meets its contract: i numbers are filled. Assumes nothing.
+-- `cases::fill` meets its contract. The loop's invariant: i numbers are filled. Assumes nothing.
 use Prim.Native.Nat.{_-_}
 use native.Mathlib.Omega.{arith}
 use lib.ListN.{length}
@@ -13,31 +13,27 @@ Inv-loop t₀ i₀ t i = Filled t₀ i t
 abbrev μ-loop : tie.MeasureT-loop
 μ-loop t₀ i₀ t i = length t₀ - i
 
--- the product does not wrap, in the loop
+-- ---- a turn
 mul-t : tie.Need-mul-t Inv-loop μ-loop
 mul-t c =
     let start = c .before .before in
     omega (arith, filled-length (c .before .loop .inv), start .good .0 .1, c .loop-test .taken)
 
--- the sum does not wrap, in the loop
 add-i : tie.Need-add-i Inv-loop μ-loop
 add-i c =
     let start = c .before .before in
     omega (arith, filled-length (c .before .loop .inv), start .good .0 .1, c .loop-test .taken)
 
--- the measure falls
 loop-less : tie.Need-loop-less Inv-loop μ-loop
 loop-less c = omega (arith, filled-length (c .before .loop .inv))
 
--- the invariant holds after a turn
 loop-again : tie.Need-loop-again Inv-loop μ-loop
 loop-again c = filled-on (c .before .loop .inv) (omega (arith, filled-length (c .before .loop .inv)))
 
--- the lent slice has kept its length, in the loop
+-- ---- behind the loop
 same-length : tie.Need-same-length Inv-loop μ-loop
 same-length c = filled-length (c .before .loop .inv)
 
--- a way out, in the loop
 returns : tie.Need-returns Inv-loop μ-loop
 returns c = filled-all (c .before .loop .inv) (omega (arith, filled-length (c .before .loop .inv)))
 

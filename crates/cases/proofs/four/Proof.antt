@@ -4,7 +4,6 @@ use Rattle.cases.specs.Cases.{four}
 use Rattle.cases.proofs.four.Statement.{statement}
 use Rattle.cases.proofs.four.Tie as tie
 
--- a way out, behind two, two2
 returns : tie.Need-returns
 unfolding four
 returns c = rw (c .before .two .ensures .0, c .two2 .ensures .0)

@@ -1,25 +1,23 @@
--- `cases::head_of` meets its contract. Assumes nothing.
+-- `cases::head_of` meets its contract, by whether a slot for each byte is asked for. Assumes nothing.
 use borrow.Author.Needs.{needs}
 use borrow.Author.Tests.{eq-eqb, ne-eqb}
 use Rattle.cases.specs.Cases.{headOf}
 use Rattle.cases.proofs.head_of.Statement.{statement}
 use Rattle.cases.proofs.head_of.Tie as tie
 
--- a way out, behind four, four2, if1
+-- it is
 returns : tie.Need-returns
 unfolding headOf
 returns c =
-    let four2-ensures = c .before .before .four2 .ensures in
-    let four-ensures = c .before .before .before .four .ensures in
-    rw (← four-ensures, ← four2-ensures, eq-eqb _ _ (c .before .if1 .taken))
+    let numbers = c .before .before in
+    rw (← numbers .before .four .ensures, ← numbers .four2 .ensures, eq-eqb _ _ (c .before .if1 .taken))
 
--- a way out, behind four, four2, if1
+-- it is not
 returns-2 : tie.Need-returns-2
 unfolding headOf
 returns-2 c =
-    let four2-ensures = c .before .before .four2 .ensures in
-    let four-ensures = c .before .before .before .four .ensures in
-    rw (← four-ensures, ← four2-ensures, ne-eqb _ _ (c .before .if1 .left))
+    let numbers = c .before .before in
+    rw (← numbers .before .four .ensures, ← numbers .four2 .ensures, ne-eqb _ _ (c .before .if1 .left))
 
 pub head-of-spec : {M : Type 1} → statement M
 head-of-spec =

@@ -1,4 +1,4 @@
--- `cases::same_numbers` meets its contract: the answer from number i on is the answer. Assumes nothing.
+-- `cases::same_numbers` meets its contract. The loop's invariant: the answer from number i on is the answer. Assumes nothing.
 use mathlib.Core.Path.{sym, _∙_}
 use Prim.Native.Nat.{_-_}
 use native.Mathlib.Omega.{arith}
@@ -14,31 +14,27 @@ Inv-loop t b i₀ i = Compared t b i
 abbrev μ-loop : tie.MeasureT-loop
 μ-loop t b i₀ i = length t - i
 
--- a way out, behind if1
+-- there are not as many
 returns : tie.Need-returns Inv-loop μ-loop
 returns c = compared-long _ _ (c .if1 .taken)
 
--- the invariant holds at first, behind if1
+-- there are
 loop-holds : tie.Need-loop-holds Inv-loop μ-loop
 loop-holds c = compared-none-yet _ _ (c .if1 .left)
 
--- a way out, in the loop behind if1, four, if2
+-- ---- a turn: the number is another
 returns-2 : tie.Need-returns-2 Inv-loop μ-loop
 returns-2 c =
-    let after-loop-test = c .before .before .before in
-    let loop-test-taken = after-loop-test .loop-test .taken in
-    let loop-inv = after-loop-test .before .loop .inv in
-    compared-differs loop-inv loop-test-taken (λ e. c .if2 .taken (e ∙ sym (c .before .four .ensures)))
+    let turn = c .before .before .before in
+    compared-differs (turn .before .loop .inv) (turn .loop-test .taken) (λ e. c .if2 .taken (e ∙ sym (c .before .four .ensures)))
 
--- the invariant holds after a turn, behind if1, four, if2
+-- it is the same
 loop-again : tie.Need-loop-again Inv-loop μ-loop
 loop-again c =
-    let after-loop-test = c .before .before .before in
-    let loop-test-taken = after-loop-test .loop-test .taken in
-    let loop-inv = after-loop-test .before .loop .inv in
-    compared-on loop-inv loop-test-taken (c .if2 .left ∙ c .before .four .ensures)
+    let turn = c .before .before .before in
+    compared-on (turn .before .loop .inv) (turn .loop-test .taken) (c .if2 .left ∙ c .before .four .ensures)
 
--- a way out, in the loop behind if1
+-- ---- all are
 returns-3 : tie.Need-returns-3 Inv-loop μ-loop
 returns-3 c = compared-all (c .before .loop .inv) (c .loop-test .left)
 

@@ -1,35 +1,34 @@
--- `cases::two` meets its contract. Assumes nothing.
-use Prim.Native.Nat.{_+_}
+-- `cases::two` meets its contract: two bytes, each below 256. Assumes nothing.
+use Prim.Native.Nat.{ℕ, _+_, _<_}
 use native.Mathlib.Omega.{arith}
 use borrow.Author.Needs.{needs}
 use Rattle.cases.specs.Cases.{two}
 use Rattle.cases.proofs.two.Statement.{statement}
 use Rattle.cases.proofs.two.Tie as tie
 
--- the product does not wrap, behind wide, wide2
+abbrev first : tie.After-wide2 → tie.After-wide
+first c = c .before .before
+
+abbrev place : tie.After-wide → ℕ
+place c = c .before .before .before .args .at
+
+low : (c : tie.After-wide) → c .wide .result < 256
+low c = omega (arith, c .wide .ensures, c .before .shared-slice-known2 .given (place c))
+
+high : (c : tie.After-wide2) → c .wide2 .result < 256
+high c = omega (arith, c .wide2 .ensures, c .before .shared-slice-known3 .given (place (first c) + 1))
+
 mul-result : tie.Need-mul-result
-mul-result c =
-    let start = c .before .before .before .before .before in
-    omega (arith, c .wide2 .ensures, c .before .shared-slice-known3 .given (start .args .at + 1))
+mul-result c = omega (arith, high c)
 
--- the sum does not wrap, behind wide, wide2
 add-result : tie.Need-add-result
-add-result c =
-    let wide-ensures = c .before .before .wide .ensures in
-    let after-shared-slice-known2 = c .before .before .before in
-    let shared-slice-known2-given = after-shared-slice-known2 .shared-slice-known2 .given in
-    let at = after-shared-slice-known2 .before .before .args .at in
-    omega (arith, wide-ensures, c .wide2 .ensures, shared-slice-known2-given at, c .before .shared-slice-known3 .given (at + 1))
+add-result c = omega (arith, low (first c), high c)
 
--- a way out, behind wide, wide2
 returns : tie.Need-returns
 unfolding two
 returns c =
-    let wide-ensures = c .before .before .wide .ensures in
-    let after-shared-slice-known2 = c .before .before .before in
-    let shared-slice-known2-given = after-shared-slice-known2 .shared-slice-known2 .given in
-    let at = after-shared-slice-known2 .before .before .args .at in
-    (rw (wide-ensures, c .wide2 .ensures), omega (arith, wide-ensures, c .wide2 .ensures, shared-slice-known2-given at, c .before .shared-slice-known3 .given (at + 1)))
+    let low-is = c .before .before .wide .ensures in
+    (rw (low-is, c .wide2 .ensures), omega (arith, low (first c), high c))
 
 pub two-spec : {M : Type 1} → statement M
 two-spec =

@@ -1,4 +1,4 @@
--- `cases::untouched` meets its contract: the answer from number i on is the answer. Assumes nothing.
+-- `cases::untouched` meets its contract. The loop's invariant: the answer from number i on is the answer. Assumes nothing.
 use Prim.Native.Nat.{_-_}
 use native.Mathlib.Omega.{arith}
 use lib.ListN.{length}
@@ -14,18 +14,19 @@ Inv-loop t i₀ i = Asked pattern t i
 abbrev μ-loop : tie.MeasureT-loop
 μ-loop t i₀ i = length t - i
 
--- a way out, in the loop behind if1
+-- ---- a turn: another number
 returns : tie.Need-returns Inv-loop μ-loop
 returns c =
-    let loop-test-taken = c .before .before .loop-test .taken in
-    let loop-inv = c .before .before .before .loop .inv in
-    asked-differs loop-inv loop-test-taken (c .if1 .taken)
+    let turn = c .before .before in
+    asked-differs (turn .before .loop .inv) (turn .loop-test .taken) (c .if1 .taken)
 
--- the invariant holds after a turn, behind if1
+-- the pattern
 loop-again : tie.Need-loop-again Inv-loop μ-loop
-loop-again c = asked-on (c .before .before .before .loop .inv) (c .before .before .loop-test .taken) (c .if1 .left)
+loop-again c =
+    let turn = c .before .before in
+    asked-on (turn .before .loop .inv) (turn .loop-test .taken) (c .if1 .left)
 
--- a way out, in the loop
+-- ---- all are the pattern
 returns-2 : tie.Need-returns-2 Inv-loop μ-loop
 returns-2 c = asked-all (c .before .loop .inv) (c .loop-test .left)
 

@@ -1,33 +1,35 @@
--- `letters::entry_of` meets its contract. Assumes nothing.
+-- `letters::entry_of` meets its contract, by the letter. Assumes nothing.
 use borrow.Author.Tests.{ne-eqb}
 use Rattle.letters.specs.Letters.{entryOf}
 use Rattle.letters.proofs.entry_of.Statement.{statement}
 use Rattle.letters.proofs.entry_of.Tie as tie
 
--- a way out
+-- S
 returns : tie.Need-returns
 unfolding entryOf
 returns c = rw (c .match .keys1)
 
--- a way out
+-- s
 returns-2 : tie.Need-returns-2
 unfolding entryOf
 returns-2 c = rw (c .match .keys2)
 
--- a way out
+-- P
 returns-3 : tie.Need-returns-3
 unfolding entryOf
 returns-3 c = rw (c .match .keys3)
 
--- a way out
+-- I
 returns-4 : tie.Need-returns-4
 unfolding entryOf
 returns-4 c = rw (c .match .keys4)
 
--- a way out
+-- another byte
 returns-5 : tie.Need-returns-5
 unfolding entryOf
-returns-5 c = rw (ne-eqb _ 83 (c .match .rest .0 .0 .0 .1), ne-eqb _ 115 (c .match .rest .0 .0 .1), ne-eqb _ 80 (c .match .rest .0 .1), ne-eqb _ 73 (c .match .rest .1))
+returns-5 c =
+    let none = c .match .rest in
+    rw (ne-eqb _ 83 (none .0 .0 .0 .1), ne-eqb _ 115 (none .0 .0 .1), ne-eqb _ 80 (none .0 .1), ne-eqb _ 73 (none .1))
 
 pub entry-of-spec : {M : Type 1} → statement M
 entry-of-spec =

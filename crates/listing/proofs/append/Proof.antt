@@ -1,4 +1,4 @@
--- `listing::append` meets its contract. Assumes nothing.
+-- `listing::append` meets its contract: the last line is put behind the events' lines. Assumes nothing.
 use native.Mathlib.Omega.{arith}
 use borrow.Author.Needs.{needs}
 use Rattle.listing.specs.Listing.{listing}
@@ -7,23 +7,19 @@ use Rattle.listing.proofs.Pasted.{pasted-on}
 use Rattle.listing.proofs.append.Statement.{statement}
 use Rattle.listing.proofs.append.Tie as tie
 
--- what `last_line` requires, behind event_lines, out
+abbrev start : tie.After-event-lines → tie.Start
+start c = c .before .before .before .before
+
 last-line-requires : tie.Need-last-line-requires
 last-line-requires c _ =
-    let after-event-lines = c .before .before .before in
-    let event-lines-ensures = after-event-lines .event-lines .ensures in
-    let start = after-event-lines .before .before .before .before in
-    lines-room _ _ event-lines-ensures (start .pre .0)
+    let lines = c .before .before .before in
+    lines-room _ _ (lines .event-lines .ensures) (start lines .pre .0)
 
--- a way out, behind event_lines, out, last_line, out2
 returns : tie.Need-returns
 unfolding listing
 returns c =
-    let last-line-ensures = c .before .before .last-line .ensures in
-    let after-event-lines = c .before .before .before .before .before .before in
-    let event-lines-ensures = after-event-lines .event-lines .ensures in
-    let start = after-event-lines .before .before .before .before in
-    pasted-on event-lines-ensures (omega (arith, start .pre .0)) last-line-ensures
+    let lines = c .before .before .before .before .before .before in
+    pasted-on (lines .event-lines .ensures) (omega (arith, start lines .pre .0)) (c .before .before .last-line .ensures)
 
 pub append-spec : {M : Type 1} → statement M
 append-spec =

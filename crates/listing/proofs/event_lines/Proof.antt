@@ -1,4 +1,4 @@
--- `listing::event_lines` meets its contract: the lines of i events are put. Assumes nothing.
+-- `listing::event_lines` meets its contract. The loop's invariant: the lines of i events are put. Assumes nothing.
 use Prim.Native.Nat.{_-_}
 use native.Mathlib.Omega.{arith}
 use borrow.Author.Needs.{needs}
@@ -12,31 +12,24 @@ Inv-loop out₀ at table n end₀ i₀ out end i = Lined out₀ at table n i end
 abbrev μ-loop : tie.MeasureT-loop
 μ-loop out₀ at table n end₀ i₀ out end i = n - i
 
--- the invariant holds at first
 loop-holds : tie.Need-loop-holds Inv-loop μ-loop
 loop-holds c = lined-none-yet (c .before .before .pre .0)
 
--- what `event_line` requires, in the loop
+-- ---- a turn
 event-line-requires : tie.Need-event-line-requires Inv-loop μ-loop
 event-line-requires c _ =
-    let loop-inv = c .before .before .loop .inv in
-    let start = c .before .before .before .before .before in
-    (lined-room loop-inv (c .before .loop-test .taken), omega (arith, start .pre .1))
+    let loop = c .before .before in
+    (lined-room (loop .loop .inv) (c .before .loop-test .taken), omega (arith, loop .before .before .before .pre .1))
 
--- the invariant holds after a turn, behind event_line, out
 loop-again : tie.Need-loop-again Inv-loop μ-loop
 loop-again c =
-    let event-line-ensures = c .before .before .event-line .ensures in
-    let after-loop-test = c .before .before .before .before in
-    let loop-test-taken = after-loop-test .loop-test .taken in
-    let loop-inv = after-loop-test .before .loop .inv in
-    lined-on loop-inv loop-test-taken event-line-ensures
+    let turn = c .before .before .before .before in
+    lined-on (turn .before .loop .inv) (turn .loop-test .taken) (c .before .before .event-line .ensures)
 
--- the lent slice has kept its length, in the loop
+-- ---- behind the loop
 same-length : tie.Need-same-length Inv-loop μ-loop
 same-length c = lined-length (c .before .loop .inv)
 
--- a way out, in the loop
 returns : tie.Need-returns Inv-loop μ-loop
 returns c = lined-all (c .before .loop .inv) (c .loop-test .left)
 

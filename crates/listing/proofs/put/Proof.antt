@@ -1,4 +1,4 @@
--- `listing::put` meets its contract: i bytes are copied. Assumes nothing.
+-- `listing::put` meets its contract. The loop's invariant: i bytes are copied. Assumes nothing.
 use Prim.Native.Nat.{_-_}
 use native.Mathlib.Omega.{arith}
 use lib.ListN.{length}
@@ -13,23 +13,20 @@ Inv-loop out₀ at text i₀ out i = Copied out₀ at text i out
 abbrev μ-loop : tie.MeasureT-loop
 μ-loop out₀ at text i₀ out i = length text - i
 
--- the index lies inside, in the loop
+-- ---- a turn
 slice-write-out : tie.Need-slice-write-out Inv-loop μ-loop
 slice-write-out c = omega (arith, copied-length (c .before .before .loop .inv), c .before .before .before .pre)
 
--- the invariant holds after a turn
 loop-again : tie.Need-loop-again Inv-loop μ-loop
 loop-again c = copied-on (c .before .before .loop .inv) (c .before .loop-test .taken)
 
--- the sum does not wrap, in the loop
+-- ---- behind the loop
 add-result : tie.Need-add-result Inv-loop μ-loop
 add-result c = omega (arith, c .before .loop .inv .part, c .before .loop .inv .room)
 
--- the lent slice has kept its length, in the loop
 same-length : tie.Need-same-length Inv-loop μ-loop
 same-length c = copied-length (c .before .loop .inv)
 
--- a way out, in the loop
 returns : tie.Need-returns Inv-loop μ-loop
 returns c = copied-all (c .before .loop .inv) (c .loop-test .left)
 

@@ -1,11 +1,10 @@
--- `mailindex::mailindex_direction` meets its contract. Assumes nothing.
+-- `mailindex::mailindex_direction` meets its contract: the guess's number. Assumes nothing.
 use mathlib.Core.Path.{ap, _∙_}
 use borrow.Author.Needs.{needs}
 use Rattle.direction.specs.Direction.{guessNumber}
 use Rattle.mailindex.proofs.mailindex_direction.Statement.{statement}
 use Rattle.mailindex.proofs.mailindex_direction.Tie as tie
 
--- a way out, behind dir_confirm, guess_number
 returns : tie.Need-returns
 returns c = c .guess-number .ensures ∙ ap guessNumber (c .before .dir-confirm .ensures)
 

@@ -1,10 +1,9 @@
--- `mailindex::mailindex_imap_client` meets its contract. Assumes nothing.
+-- `mailindex::mailindex_imap_client` meets its contract: the entry's answer, as numbers. Assumes nothing.
 use borrow.Author.Needs.{needs}
 use Rattle.mailindex.proofs.Laws.{answers}
 use Rattle.mailindex.proofs.mailindex_imap_client.Statement.{statement}
 use Rattle.mailindex.proofs.mailindex_imap_client.Tie as tie
 
--- a way out, behind imap_client, numbers
 returns : tie.Need-returns
 returns c = answers (c .before .before .before .imap-client .ensures) (c .numbers .ensures)
 

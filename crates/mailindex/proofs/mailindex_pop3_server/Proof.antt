@@ -1,10 +1,9 @@
--- `mailindex::mailindex_pop3_server` meets its contract. Assumes nothing.
+-- `mailindex::mailindex_pop3_server` meets its contract: the entry's answer, as numbers. Assumes nothing.
 use borrow.Author.Needs.{needs}
 use Rattle.mailindex.proofs.Laws.{answers}
 use Rattle.mailindex.proofs.mailindex_pop3_server.Statement.{statement}
 use Rattle.mailindex.proofs.mailindex_pop3_server.Tie as tie
 
--- a way out, behind pop3_server, numbers
 returns : tie.Need-returns
 returns c = answers (c .before .before .before .pop3-server .ensures) (c .numbers .ensures)
 

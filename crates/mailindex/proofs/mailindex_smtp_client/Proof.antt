@@ -1,10 +1,9 @@
--- `mailindex::mailindex_smtp_client` meets its contract. Assumes nothing.
+-- `mailindex::mailindex_smtp_client` meets its contract: the entry's answer, as numbers. Assumes nothing.
 use borrow.Author.Needs.{needs}
 use Rattle.mailindex.proofs.Laws.{answers}
 use Rattle.mailindex.proofs.mailindex_smtp_client.Statement.{statement}
 use Rattle.mailindex.proofs.mailindex_smtp_client.Tie as tie
 
--- a way out, behind smtp_client, numbers
 returns : tie.Need-returns
 returns c = answers (c .before .before .before .smtp-client .ensures) (c .numbers .ensures)
 

@@ -1,16 +1,14 @@
--- `maillist::print` meets its contract. Assumes nothing.
+-- `maillist::print` is safe: the text lies in the buffer. Assumes nothing.
 use mathlib.Core.Path.{sym}
 use lib.Seq.{length-take-le}
 use borrow.Author.Needs.{needs}
 use Rattle.maillist.proofs.print.Statement.{statement}
 use Rattle.maillist.proofs.print.Tie as tie
 
--- the index lies inside, behind out, answer, out2, out3
 slice-aggregate-write-all : tie.Need-slice-aggregate-write-all
 slice-aggregate-write-all c =
-    let answer-last = c .before .before .answer .last in
-    let answer-ensures = c .before .before .answer .ensures in
-    sym (length-take-le _ (answer-last .1 .0) (answer-ensures .within))
+    let answer = c .before .before .answer in
+    sym (length-take-le _ (answer .last .1 .0) (answer .ensures .within))
 
 pub print-spec : {M : Type 1} → statement M
 print-spec =

@@ -1,16 +1,16 @@
--- `replay::count` meets its contract. Assumes nothing.
+-- `replay::count` meets its contract, by whether there is such a group. Assumes nothing.
 use borrow.Author.Needs.{needs}
 use borrow.Author.Tests.{lt-ltb, le-ltb}
 use Rattle.replay.specs.Replay.{countedIn}
 use Rattle.replay.proofs.count.Statement.{statement}
 use Rattle.replay.proofs.count.Tie as tie
 
--- a way out, behind if1, wrapping_add_u64
+-- there is
 returns : tie.Need-returns
 unfolding countedIn
 returns c = rw (lt-ltb _ _ (c .before .before .if1 .taken), c .wrapping-add-u64 .ensures)
 
--- a way out, behind if1
+-- there is not
 returns-2 : tie.Need-returns-2
 unfolding countedIn
 returns-2 c = rw (le-ltb _ _ (c .if1 .left))

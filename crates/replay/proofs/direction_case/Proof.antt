@@ -1,20 +1,18 @@
--- `replay::direction_case` meets its contract. Assumes nothing.
+-- `replay::direction_case` meets its contract: broken, or judged by the guess. Assumes nothing.
 use borrow.Author.Needs.{needs}
 use Rattle.replay.specs.Replay.{broken}
 use Rattle.replay.proofs.Laws.{direction-judged}
 use Rattle.replay.proofs.direction_case.Statement.{statement}
 use Rattle.replay.proofs.direction_case.Tie as tie
 
--- a way out, behind stored, filled, stored2, if1, stored3, four, guess Number(n), judged
+-- the guess is compared with the stored one
 returns-3 : tie.Need-returns-3
 returns-3 c =
-    let n-is = c .before .before .n .given .1 in
-    let after-guess = c .before .before .before .before in
-    let guess-ensures = after-guess .guess .ensures in
-    let after-four = after-guess .before in
-    let four-ensures = after-four .four .ensures in
-    let filled-kept = after-four .before .before .before .before .filled .kept in
-    direction-judged _ _ (filled-kept .1 .0) four-ensures guess-ensures n-is (c .judged .ensures)
+    let told = c .before .before in
+    let guessed = told .before .before in
+    let stored = guessed .before in
+    let filled-kept = stored .before .before .before .before .filled .kept in
+    direction-judged _ _ (filled-kept .1 .0) (stored .four .ensures) (guessed .guess .ensures) (told .n .given .1) (c .judged .ensures)
 
 pub direction-case-spec : {M : Type 1} → statement M
 direction-case-spec =

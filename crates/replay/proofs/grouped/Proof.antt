@@ -1,16 +1,16 @@
--- `replay::grouped` meets its contract. Assumes nothing.
+-- `replay::grouped` meets its contract, by whether there is such a result. Assumes nothing.
 use borrow.Author.Needs.{needs}
 use borrow.Author.Tests.{lt-ltb, le-ltb}
 use Rattle.replay.specs.Replay.{groupOf}
 use Rattle.replay.proofs.grouped.Statement.{statement}
 use Rattle.replay.proofs.grouped.Tie as tie
 
--- a way out, behind if1
+-- there is not
 returns : tie.Need-returns
 unfolding groupOf
 returns c = rw (lt-ltb _ _ (c .if1 .taken))
 
--- a way out, behind if1, index
+-- there is
 returns-2 : tie.Need-returns-2
 unfolding groupOf
 returns-2 c = rw (le-ltb _ _ (c .before .if1 .left), ← c .index .ensures .0)

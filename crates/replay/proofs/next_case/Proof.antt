@@ -1,30 +1,26 @@
--- `replay::next_case` meets its contract. Assumes nothing.
+-- `replay::next_case` meets its contract: the end, no whole head, or what stands behind a head. Assumes nothing.
 use borrow.Author.Needs.{needs}
 use Rattle.replay.specs.Replay.{end, headless}
 use Rattle.replay.proofs.Laws.{case-behind, broken-behind}
 use Rattle.replay.proofs.next_case.Statement.{statement}
 use Rattle.replay.proofs.next_case.Tie as tie
 
--- a way out, behind head, fill, head2 Bytes(n), if1, if2, head3, head_of, read_case, bytes, events Case(result, different), grouped
+-- a record was read: a case
 returns-4 : tie.Need-returns-4
 returns-4 c =
-    let result-is = c .before .before .result .given .1 in
-    let after-read-case = c .before .before .before .before .before .before .before .before .before .before in
-    let read-case-ensures = after-read-case .read-case .ensures in
-    let after-head-of = after-read-case .before .before .before .before in
-    let head-of-ensures = after-head-of .head-of .ensures in
-    let fill-kept = after-head-of .before .before .before .before .before .before .before .before .fill .kept in
-    case-behind _ (fill-kept .1 .0) head-of-ensures read-case-ensures result-is (c .grouped .ensures)
+    let told = c .before .before in
+    let called = told .before .before .before .before .before .before .before .before in
+    let head = called .before .before .before .before in
+    let filled = head .before .before .before .before .before .before .before .before in
+    case-behind _ (filled .fill .kept .1 .0) (head .head-of .ensures) (called .read-case .ensures) (told .result .given .1) (c .grouped .ensures)
 
--- a way out, behind head, fill, head2 Bytes(n), if1, if2, head3, head_of, read_case, bytes, events Broken
+-- a broken one
 returns-5 : tie.Need-returns-5
 returns-5 c =
-    let after-read-case = c .before .before .before .before .before .before .before .before in
-    let read-case-ensures = after-read-case .read-case .ensures in
-    let after-head-of = after-read-case .before .before .before .before in
-    let head-of-ensures = after-head-of .head-of .ensures in
-    let fill-kept = after-head-of .before .before .before .before .before .before .before .before .fill .kept in
-    broken-behind _ (fill-kept .1 .0) head-of-ensures read-case-ensures (c .enum-told2 .given .1)
+    let called = c .before .before .before .before .before .before .before .before in
+    let head = called .before .before .before .before in
+    let filled = head .before .before .before .before .before .before .before .before in
+    broken-behind _ (filled .fill .kept .1 .0) (head .head-of .ensures) (called .read-case .ensures) (c .enum-told2 .given .1)
 
 pub next-case-spec : {M : Type 1} → statement M
 next-case-spec =

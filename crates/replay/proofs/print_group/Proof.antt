@@ -1,29 +1,31 @@
--- `replay::print_group` is safe. Assumes nothing.
+-- `replay::print_group` is safe: the line fits. Assumes nothing.
 use mathlib.Core.Path.{sym}
+use Prim.Native.Nat.{_+_, _≤_}
 use native.Mathlib.Omega.{arith}
+use lib.ListN.{length}
 use lib.Seq.{length-take-le}
 use borrow.Author.Needs.{needs}
 use Rattle.listing.proofs.Lines.{word-room}
 use Rattle.replay.proofs.print_group.Statement.{statement}
 use Rattle.replay.proofs.print_group.Tie as tie
 
--- what `word` requires, behind letter_of, out, word, out2, out3
+-- behind the result there is room for another word, and behind that one for the line
+word-fits : (c : tie.After-word) → c .word .result + 21 ≤ length (c .word .last .0)
+word-fits c = word-room _ _ (c .word .ensures) 21 (omega arith)
+
+line-fits : (c : tie.After-word2) → c .word2 .result + 0 ≤ length (c .word2 .last .0)
+line-fits c = word-room _ _ (c .word2 .ensures) 0 (word-fits (c .before .before .before))
+
 word-requires-2 : tie.Need-word-requires-2
-word-requires-2 c _ = word-room _ _ (c .before .before .word .ensures) 21 (omega arith)
+word-requires-2 c _ = word-fits (c .before .before)
 
--- the index lies inside, behind letter_of, out, word, out2, out3, word2, out4
 array-share-prefix-out : tie.Need-array-share-prefix-out
-array-share-prefix-out c =
-    let word-ensures = c .before .before .before .before .word .ensures in
-    omega (arith, word-room _ _ (c .before .word2 .ensures) 0 (word-room _ _ word-ensures 21 (omega arith)))
+array-share-prefix-out c = omega (arith, line-fits (c .before))
 
--- the index lies inside, behind letter_of, out, word, out2, out3, word2, out4, out5
 slice-aggregate-write-all : tie.Need-slice-aggregate-write-all
 slice-aggregate-write-all c =
-    let word2-last = c .before .before .word2 .last in
-    let word2-ensures = c .before .before .word2 .ensures in
-    let word-ensures = c .before .before .before .before .before .word .ensures in
-    sym (length-take-le _ (word2-last .0) (omega (arith, word-room _ _ word2-ensures 0 (word-room _ _ word-ensures 21 (omega arith)))))
+    let last = c .before .before in
+    sym (length-take-le _ (last .word2 .last .0) (omega (arith, line-fits last)))
 
 pub print-group-spec : {M : Type 1} → statement M
 print-group-spec =
