@@ -1,6 +1,6 @@
 // The text of a listing, put into a lent run of bytes: a line `kind offset length encoding` for each event, then `result place count`.
 ghost use mathlib.Core.List.{[], _∷_};
-ghost use Prim.Native.Nat.{_+_, _*_, _≤_, _<_};
+ghost use Prim.Native.Nat.{_+_, _*_, _≤_};
 ghost use lib.ListN.{length};
 ghost use Rattle.events.specs.Events.{numbers, resultNumber};
 ghost use Rattle.events.specs.Table.{finalOf, eventAt};
