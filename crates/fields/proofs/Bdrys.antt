@@ -26,12 +26,16 @@ use Rattle.fields.specs.declared.runs.Run.the-variants.{Bare}
 use Rattle.fields.proofs.Led.{lead-within}
 
 -- a word that stands at a place behind o leaves room for itself
-pub word-room : (w l : List ℕ) (o p : ℕ) → firstPlace (stands w (drop o l)) (drop o l) ≡ At p → o + p + length w ≤ length l
+word-room : (w l : List ℕ) (o p : ℕ) → firstPlace (stands w (drop o l)) (drop o l) ≡ At p → o + p + length w ≤ length l
 unfolding stands
 word-room w l o p e =
     let h = starts-long w (drop p (drop o l)) (first-passes (stands w (drop o l)) (drop o l) p e) in
     let i = first-inside (stands w (drop o l)) (drop o l) p e in
     omega (arith, length-drop p (drop o l), length-drop o l)
+
+pub named-room : (w l : List ℕ) (p : ℕ) → named w l ≡ At p → length typeField + p + length w ≤ length l
+unfolding named
+named-room w l p e = word-room w l (length typeField) p e
 
 closed-inside : (l : List ℕ) (o : ℕ) (q : Place) → o ≤ length l → firstPlace (holds 34 (drop o l)) (drop o l) ≡ q → Inside l (closed o q)
 unfolding closed
@@ -58,15 +62,15 @@ typed-inside l (Of o n) h = h
 typed-inside l Unsupplied h = tt
 
 bare-inside : (l : List ℕ) (q : Place) → named bareName l ≡ q → InsideType l (bareParameter l q)
-unfolding bareParameter named
+unfolding bareParameter
 bare-inside l (At p) e = typed-inside l (unquoted l (length typeField + p + length bareName))
-    (unquoted-inside l (length typeField + p + length bareName) (word-room bareName l (length typeField) p e))
+    (unquoted-inside l (length typeField + p + length bareName) (named-room bareName l p e))
 bare-inside l Nowhere e = tt
 
 parameter-inside : (l : List ℕ) (q : Place) → named quotedName l ≡ q → InsideType l (parameter l q)
-unfolding parameter named
+unfolding parameter
 parameter-inside l (At p) e = typed-inside l (quoted l (length typeField + p + length quotedName))
-    (quoted-inside l (length typeField + p + length quotedName) (word-room quotedName l (length typeField) p e))
+    (quoted-inside l (length typeField + p + length quotedName) (named-room quotedName l p e))
 parameter-inside l Nowhere e = bare-inside l (named bareName l) refl
 
 type-if : (l : List ℕ) (t : Bool) (c : ContentType) → InsideType l c → InsideType l (cond t c Other)

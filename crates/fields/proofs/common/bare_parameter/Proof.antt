@@ -1,47 +1,41 @@
--- `fields::common::bare_parameter` meets its contract. Assumes nothing.
-use mathlib.Core.Path.{sym, ap, _∙_}
+-- `fields::common::bare_parameter` meets its contract, by whether the parameter's name stands somewhere. Assumes nothing.
+use mathlib.Core.Path.{_≡_, sym, ap, _∙_}
+use Prim.Native.Nat.{_+_, _≤_}
 use native.Mathlib.Omega.{arith}
+use lib.ListN.{length}
 use borrow.Author.Needs.{needs}
 use Rattle.reading.proofs.Words.{rest-is}
-use Rattle.fields.specs.Common.{named, bareName, typed, bareParameter}
-use Rattle.fields.proofs.Bdrys.{word-room}
+use Rattle.reading.specs.declared.Place.the-variants.{At}
+use Rattle.fields.specs.Common.{typeField, named, bareName, typed, bareParameter}
+use Rattle.fields.proofs.Bdrys.{named-room}
 use Rattle.fields.proofs.common.bare_parameter.Statement.{statement}
 use Rattle.fields.proofs.common.bare_parameter.Tie as tie
 
--- the sum does not wrap, behind find At(p)
+-- ---- it stands at p
+abbrev start : tie.After-p → tie.Start
+start c = c .before .before .before .before .before .before
+
+name-at : (c : tie.After-p) → named bareName (start c .args .l .now) ≡ At (c .p .given .0 .0)
+unfolding named
+name-at c = rw rest-is at (sym (c .before .before .find .ensures) ∙ c .p .given .1)
+
+name-room : (c : tie.After-p) → length typeField + c .p .given .0 .0 + length bareName ≤ length (start c .args .l .now)
+name-room c = named-room bareName _ _ (name-at c)
+
 add-unquoted : tie.Need-add-unquoted
-add-unquoted c =
-    let after-find = c .before .before .before in
-    let find-ensures = after-find .find .ensures in
-    let start = after-find .before .before .before .before in
-    omega (arith, word-room bareName (start .args .l .now) 14 _ (rw rest-is at (sym find-ensures ∙ c .before .p .given .1)))
+add-unquoted c = omega (arith, name-room (c .before))
 
--- the sum does not wrap, behind find At(p)
 add-unquoted-2 : tie.Need-add-unquoted-2
-add-unquoted-2 c =
-    let after-find = c .before .before .before in
-    let find-ensures = after-find .find .ensures in
-    let start = after-find .before .before .before .before in
-    omega (arith, word-room bareName (start .args .l .now) 14 _ (rw rest-is at (sym find-ensures ∙ c .before .p .given .1)))
+add-unquoted-2 c = omega (arith, name-room (c .before))
 
--- what `unquoted` requires, behind find At(p)
 unquoted-requires : tie.Need-unquoted-requires
-unquoted-requires c _ =
-    let after-find = c .before .before .before in
-    let find-ensures = after-find .find .ensures in
-    let start = after-find .before .before .before .before in
-    word-room bareName (start .args .l .now) 14 _ (rw rest-is at (sym find-ensures ∙ c .before .p .given .1))
+unquoted-requires c _ = name-room (c .before)
 
--- a way out, behind find At(p), unquoted, as_type
 returns : tie.Need-returns
-unfolding bareParameter named
-returns c =
-    let after-p = c .before .before .before in
-    let p-is = after-p .p .given .1 in
-    let find-ensures = after-p .before .before .find .ensures in
-    rw (rw rest-is at (sym find-ensures ∙ p-is)) (c .as-type .ensures ∙ ap typed (c .before .unquoted .ensures))
+unfolding bareParameter
+returns c = rw (name-at (c .before .before .before)) (c .as-type .ensures ∙ ap typed (c .before .unquoted .ensures))
 
--- a way out, behind find Nowhere
+-- ---- it stands nowhere
 returns-2 : tie.Need-returns-2
 unfolding bareParameter named
 returns-2 c = rw (rw rest-is at (sym (c .before .before .find .ensures) ∙ c .enum-told .given .1))

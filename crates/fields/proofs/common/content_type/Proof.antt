@@ -1,78 +1,72 @@
--- `fields::common::content_type` meets its contract. Assumes nothing.
-use mathlib.Core.Path.{sym, ap, _∙_}
+-- `fields::common::content_type` meets its contract: behind the field's name the quoted parameter is sought, then the bare one. Assumes nothing.
+use mathlib.Core.Path.{_≡_, sym, ap, _∙_}
+use mathlib.Core.Bool.{true}
+use Prim.Native.Nat.{_+_, _≤_}
 use native.Mathlib.Omega.{arith}
+use lib.ListN.{length}
 use borrow.Author.Needs.{needs}
 use borrow.Author.Tests.{not-true, not-false}
 use Rattle.reading.proofs.Words.{rest-is, starts-long}
+use Rattle.reading.specs.Bytes.{startsWith}
+use Rattle.reading.specs.declared.Place.the-variants.{At}
 use Rattle.fields.specs.Common.{typeField, named, quotedName, typed, parameter, contentType}
-use Rattle.fields.proofs.Bdrys.{word-room}
+use Rattle.fields.proofs.Bdrys.{named-room}
 use Rattle.fields.proofs.common.content_type.Statement.{statement}
 use Rattle.fields.proofs.common.content_type.Tie as tie
 
--- a way out, behind starts_with, if1
+-- ---- what is known
+
+abbrev start : tie.Else1 → tie.Start
+start c = c .before .before .before .before
+
+-- behind the test, where the line is not turned away: the field's name opens it
+field-opens : (c : tie.Else1) → startsWith typeField (start c .args .l .now) ≡ true
+field-opens c = sym (c .before .starts-with .ensures) ∙ not-false _ (c .if1 .left)
+
+abbrev opened : tie.After-p → tie.Else1
+opened c = c .before .before .before .before .before
+
+-- behind `find`'s answer `At(p)`: the quoted parameter's name stands there
+name-at : (c : tie.After-p) → named quotedName (start (opened c) .args .l .now) ≡ At (c .p .given .0 .0)
+unfolding named
+name-at c = rw rest-is at (sym (c .before .before .find .ensures) ∙ c .p .given .1)
+
+name-room : (c : tie.After-p) → length typeField + c .p .given .0 .0 + length quotedName ≤ length (start (opened c) .args .l .now)
+name-room c = named-room quotedName _ _ (name-at c)
+
+-- ---- another field
 returns : tie.Need-returns
 unfolding contentType
 returns c = rw (sym (c .before .starts-with .ensures) ∙ not-true _ (c .if1 .taken))
 
--- the difference is not below 0, behind starts_with, if1
 sub-find : tie.Need-sub-find
-sub-find c = starts-long typeField _ (sym (c .before .starts-with .ensures) ∙ not-false _ (c .if1 .left))
+sub-find c = starts-long typeField _ (field-opens c)
 
--- the sum does not wrap, behind starts_with, if1, find At(p)
+-- ---- a quoted parameter
 add-quoted : tie.Need-add-quoted
-add-quoted c =
-    let after-find = c .before .before .before in
-    let find-ensures = after-find .find .ensures in
-    let start = after-find .before .before .before .before .before .before .before in
-    omega (arith, word-room quotedName (start .args .l .now) 14 _ (rw rest-is at (sym find-ensures ∙ c .before .p .given .1)))
+add-quoted c = omega (arith, name-room (c .before))
 
--- the sum does not wrap, behind starts_with, if1, find At(p)
 add-quoted-2 : tie.Need-add-quoted-2
-add-quoted-2 c =
-    let after-find = c .before .before .before in
-    let find-ensures = after-find .find .ensures in
-    let start = after-find .before .before .before .before .before .before .before in
-    omega (arith, word-room quotedName (start .args .l .now) 14 _ (rw rest-is at (sym find-ensures ∙ c .before .p .given .1)))
+add-quoted-2 c = omega (arith, name-room (c .before))
 
--- what `quoted` requires, behind starts_with, if1, find At(p)
 quoted-requires : tie.Need-quoted-requires
-quoted-requires c _ =
-    let after-find = c .before .before .before in
-    let find-ensures = after-find .find .ensures in
-    let start = after-find .before .before .before .before .before .before .before in
-    word-room quotedName (start .args .l .now) 14 _ (rw rest-is at (sym find-ensures ∙ c .before .p .given .1))
+quoted-requires c _ = name-room (c .before)
 
--- what `bare_parameter` requires, behind starts_with, if1, find Nowhere
-bare-parameter-requires : tie.Need-bare-parameter-requires
-bare-parameter-requires c _ =
-    let after-if1 = c .before .before .before .before .before in
-    let if1-left = after-if1 .if1 .left in
-    let starts-with-ensures = after-if1 .before .starts-with .ensures in
-    starts-long typeField _ (sym starts-with-ensures ∙ not-false _ if1-left)
-
--- a way out, behind starts_with, if1, find At(p), quoted, as_type
 returns-2 : tie.Need-returns-2
-unfolding contentType parameter named
+unfolding contentType parameter
 returns-2 c =
-    let after-p = c .before .before .before in
-    let p-is = after-p .p .given .1 in
-    let after-find = after-p .before .before in
-    let find-ensures = after-find .find .ensures in
-    let after-if1 = after-find .before .before .before in
-    let if1-left = after-if1 .if1 .left in
-    let starts-with-ensures = after-if1 .before .starts-with .ensures in
-    rw (sym starts-with-ensures ∙ not-false _ if1-left, rw rest-is at (sym find-ensures ∙ p-is)) (c .as-type .ensures ∙ ap typed (c .before .quoted .ensures))
+    let found = c .before .before .before in
+    rw (field-opens (opened found), name-at found) (c .as-type .ensures ∙ ap typed (c .before .quoted .ensures))
 
--- a way out, behind starts_with, if1, find Nowhere, bare_parameter
+-- ---- none: the bare one is sought
+bare-parameter-requires : tie.Need-bare-parameter-requires
+bare-parameter-requires c _ = starts-long typeField _ (field-opens (c .before .before .before .before .before))
+
 returns-3 : tie.Need-returns-3
 unfolding contentType parameter named
 returns-3 c =
-    let after-find = c .before .before .before in
-    let find-ensures = after-find .find .ensures in
-    let after-if1 = after-find .before .before .before in
-    let if1-left = after-if1 .if1 .left in
-    let starts-with-ensures = after-if1 .before .starts-with .ensures in
-    rw (sym starts-with-ensures ∙ not-false _ if1-left, rw rest-is at (sym find-ensures ∙ c .before .enum-told .given .1)) (c .bare-parameter .ensures)
+    let called = c .before .before .before in
+    rw (field-opens (called .before .before .before), rw rest-is at (sym (called .find .ensures) ∙ c .before .enum-told .given .1)) (c .bare-parameter .ensures)
 
 pub content-type-spec : {M : Type 1} → statement M
 content-type-spec =

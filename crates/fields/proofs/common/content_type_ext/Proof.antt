@@ -1,43 +1,47 @@
--- `fields::common::content_type_ext` meets its contract. Assumes nothing.
-use mathlib.Core.Path.{sym, _∙_}
+-- `fields::common::content_type_ext` meets its contract: behind a tab a quoted parameter, else a bare one. Assumes nothing.
+use mathlib.Core.Path.{_≡_, sym, _∙_}
+use mathlib.Core.Bool.{false, true}
 use mathlib.Core.List.{_++_}
 use borrow.Author.Needs.{needs}
 use Rattle.reading.proofs.Words.{starts-long}
+use Rattle.reading.specs.Bytes.{startsWith}
 use Rattle.fields.specs.Common.{tab, bareName, quotedName, contentTypeExt}
 use Rattle.fields.proofs.common.content_type_ext.Statement.{statement}
 use Rattle.fields.proofs.common.content_type_ext.Tie as tie
 
--- what `quoted` requires, behind starts_with, if1
-quoted-requires : tie.Need-quoted-requires
-quoted-requires c _ = starts-long (tab ++ quotedName) _ (sym (c .before .starts-with .ensures) ∙ c .if1 .taken)
+-- ---- what is known behind the tests
 
--- a way out, behind starts_with, if1, quoted
+quoted-opens : (c : tie.Then1) → startsWith (tab ++ quotedName) (c .before .before .before .before .args .l .now) ≡ true
+quoted-opens c = sym (c .before .starts-with .ensures) ∙ c .if1 .taken
+
+not-quoted : (c : tie.Else1) → startsWith (tab ++ quotedName) (c .before .before .before .before .args .l .now) ≡ false
+not-quoted c = sym (c .before .starts-with .ensures) ∙ c .if1 .left
+
+bare-opens : (c : tie.Then2) → startsWith (tab ++ bareName) (c .before .before .before .before .before .before .before .args .l .now) ≡ true
+bare-opens c = sym (c .before .starts-with2 .ensures) ∙ c .if2 .taken
+
+-- ---- a quoted parameter
+quoted-requires : tie.Need-quoted-requires
+quoted-requires c _ = starts-long (tab ++ quotedName) _ (quoted-opens c)
+
 returns : tie.Need-returns
 unfolding contentTypeExt
-returns c = rw (sym (c .before .before .starts-with .ensures) ∙ c .before .if1 .taken) (c .quoted .ensures)
+returns c = rw (quoted-opens (c .before)) (c .quoted .ensures)
 
--- what `unquoted` requires, behind starts_with, if1, starts_with2, if2
+-- ---- a bare one
 unquoted-requires : tie.Need-unquoted-requires
-unquoted-requires c _ = starts-long (tab ++ bareName) _ (sym (c .before .starts-with2 .ensures) ∙ c .if2 .taken)
+unquoted-requires c _ = starts-long (tab ++ bareName) _ (bare-opens c)
 
--- a way out, behind starts_with, if1, starts_with2, if2, unquoted
 returns-2 : tie.Need-returns-2
 unfolding contentTypeExt
 returns-2 c =
-    let starts-with2-ensures = c .before .before .starts-with2 .ensures in
-    let after-if1 = c .before .before .before .before in
-    let if1-left = after-if1 .if1 .left in
-    let starts-with-ensures = after-if1 .before .starts-with .ensures in
-    rw (sym starts-with-ensures ∙ if1-left, sym starts-with2-ensures ∙ c .before .if2 .taken) (c .unquoted .ensures)
+    let bare = c .before in
+    rw (not-quoted (bare .before .before .before), bare-opens bare) (c .unquoted .ensures)
 
--- a way out, behind starts_with, if1, starts_with2, if2
+-- ---- neither
 returns-3 : tie.Need-returns-3
 unfolding contentTypeExt
-returns-3 c =
-    let after-if1 = c .before .before .before in
-    let if1-left = after-if1 .if1 .left in
-    let starts-with-ensures = after-if1 .before .starts-with .ensures in
-    rw (sym starts-with-ensures ∙ if1-left, sym (c .before .starts-with2 .ensures) ∙ c .if2 .left)
+returns-3 c = rw (not-quoted (c .before .before .before), sym (c .before .starts-with2 .ensures) ∙ c .if2 .left)
 
 pub content-type-ext-spec : {M : Type 1} → statement M
 content-type-ext-spec =

@@ -1,57 +1,55 @@
--- `fields::common::dash_bdry` meets its contract: two hyphens, then the boundary. Assumes nothing.
-use mathlib.Core.Path.{sym, _∙_}
+-- `fields::common::dash_bdry` meets its contract: two hyphens, then the boundary, then the line's end. Assumes nothing.
+use mathlib.Core.Path.{_≡_, sym, _∙_}
+use mathlib.Core.Bool.{true}
 use mathlib.Core.List.{[]}
 use borrow.Author.Needs.{needs}
 use borrow.Author.Tests.{not-true, not-false}
 use Rattle.reading.proofs.Words.{rest-is, starts-long, starts-append}
+use Rattle.reading.specs.Bytes.{startsWith}
 use Rattle.reading.specs.Reading.{dash}
 use Rattle.fields.specs.Common.{dashBdry}
 use Rattle.fields.proofs.common.dash_bdry.Statement.{statement}
 use Rattle.fields.proofs.common.dash_bdry.Tie as tie
 
--- a way out, behind starts_with, if1
+-- ---- what is known
+
+abbrev start : tie.After-starts-with → tie.Start
+start c = c .before .before .before .before
+
+-- behind the first test, where the line is not turned away: two hyphens open it
+hyphens-open : (c : tie.Else1) → startsWith (dash []) (start (c .before) .args .l .now) ≡ true
+hyphens-open c = sym (c .before .starts-with .ensures) ∙ not-false _ (c .if1 .left)
+
+-- behind the second call: the line opens as it must if the boundary stands behind the hyphens
+dashed : (c : tie.After-starts-with2) →
+    let a = start (c .before .before .before) .args in
+    startsWith (dash (a .b .now)) (a .l .now) ≡ c .starts-with2 .result
+dashed c =
+    let opens = c .before .before in
+    let a = start (opens .before) .args in
+    rw (starts-append (dash []) (a .b .now) (a .l .now), hyphens-open opens) (rw rest-is at (sym (c .starts-with2 .ensures)))
+
+-- ---- no hyphens
 returns : tie.Need-returns
 unfolding dashBdry
 returns c =
-    let start = c .before .before .before .before .before in
-    rw (starts-append (dash []) (start .args .b .now) (start .args .l .now), sym (c .before .starts-with .ensures) ∙ not-true _ (c .if1 .taken))
+    let a = start (c .before) .args in
+    rw (starts-append (dash []) (a .b .now) (a .l .now), sym (c .before .starts-with .ensures) ∙ not-true _ (c .if1 .taken))
 
--- the difference is not below 0, behind starts_with, if1
+-- ---- another boundary behind them
 sub-starts-with : tie.Need-sub-starts-with
-sub-starts-with c = starts-long (dash []) _ (sym (c .before .starts-with .ensures) ∙ not-false _ (c .if1 .left))
+sub-starts-with c = starts-long (dash []) _ (hyphens-open c)
 
--- a way out, behind starts_with, if1, starts_with2, if2
 returns-2 : tie.Need-returns-2
 unfolding dashBdry
-returns-2 c =
-    let after-if1 = c .before .before .before in
-    let if1-left = after-if1 .if1 .left in
-    let after-starts-with = after-if1 .before in
-    let starts-with-ensures = after-starts-with .starts-with .ensures in
-    let start = after-starts-with .before .before .before .before in
-    rw (
-      starts-append (dash []) (start .args .b .now) (start .args .l .now),
-      sym starts-with-ensures ∙ not-false _ if1-left,
-      rw rest-is at (sym (c .before .starts-with2 .ensures) ∙ not-true _ (c .if2 .taken)),
-    )
+returns-2 c = rw (dashed (c .before) ∙ not-true _ (c .if2 .taken))
 
--- a way out, behind starts_with, if1, starts_with2, if2, ends_with
+-- ---- this boundary: the line's end decides
 returns-3 : tie.Need-returns-3
 unfolding dashBdry
 returns-3 c =
-    let if2-left = c .before .before .if2 .left in
-    let after-starts-with2 = c .before .before .before in
-    let starts-with2-ensures = after-starts-with2 .starts-with2 .ensures in
-    let after-if1 = after-starts-with2 .before .before in
-    let if1-left = after-if1 .if1 .left in
-    let after-starts-with = after-if1 .before in
-    let starts-with-ensures = after-starts-with .starts-with .ensures in
-    let start = after-starts-with .before .before .before .before in
-    rw (
-      starts-append (dash []) (start .args .b .now) (start .args .l .now),
-      sym starts-with-ensures ∙ not-false _ if1-left,
-      rw rest-is at (sym starts-with2-ensures ∙ not-false _ if2-left),
-    ) (c .ends-with .ensures)
+    let other = c .before .before in
+    rw (dashed (other .before) ∙ not-false _ (other .if2 .left)) (c .ends-with .ensures)
 
 pub dash-bdry-spec : {M : Type 1} → statement M
 dash-bdry-spec =

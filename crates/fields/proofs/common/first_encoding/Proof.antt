@@ -4,32 +4,28 @@ use Rattle.fields.specs.Common.{firstEncoding}
 use Rattle.fields.proofs.common.first_encoding.Statement.{statement}
 use Rattle.fields.proofs.common.first_encoding.Tie as tie
 
--- a way out, behind Unsaid, transfer_encoding
+-- ---- none was said: the line's counts
 returns : tie.Need-returns
 unfolding firstEncoding
 returns c = rw (c .before .enum-told .given .1) (c .transfer-encoding .ensures)
 
--- a way out, behind Bit7
+-- ---- one was said, and stays: Bit7, Bit8, Binary, QuotedPrintable, Base64
 returns-2 : tie.Need-returns-2
 unfolding firstEncoding
 returns-2 c = rw (c .enum-told2 .given .1)
 
--- a way out, behind Bit8
 returns-3 : tie.Need-returns-3
 unfolding firstEncoding
 returns-3 c = rw (c .enum-told3 .given .1)
 
--- a way out, behind Binary
 returns-4 : tie.Need-returns-4
 unfolding firstEncoding
 returns-4 c = rw (c .enum-told4 .given .1)
 
--- a way out, behind QuotedPrintable
 returns-5 : tie.Need-returns-5
 unfolding firstEncoding
 returns-5 c = rw (c .enum-told5 .given .1)
 
--- a way out, behind Base64
 returns-6 : tie.Need-returns-6
 unfolding firstEncoding
 returns-6 c = rw (c .enum-told6 .given .1)

@@ -1,47 +1,58 @@
--- `fields::common::supply` meets its contract. Assumes nothing.
-use mathlib.Core.Path.{sym, _∙_}
+-- `fields::common::supply` meets its contract: a later line may supply the boundary only where a Content-Type was seen. Assumes nothing.
+use mathlib.Core.Path.{_≡_, sym, _∙_}
+use mathlib.Core.Bool.{true}
 use native.Mathlib.Omega.{arith}
 use borrow.Author.Needs.{needs}
 use borrow.Author.Tests.{not-true, not-false}
-use Rattle.fields.specs.Common.{byBoundary}
+use Rattle.fields.specs.Common.{byBoundary, contentTypeExt, part}
+use Rattle.fields.specs.declared.common.Bdry.the-variants.{Of}
 use Rattle.fields.proofs.Bdrys.{ext-room, says-ext, says-no-ext}
 use Rattle.fields.proofs.common.supply.Statement.{statement}
 use Rattle.fields.proofs.common.supply.Tie as tie
 
--- a way out, behind if1, by_type
+-- ---- what is known
+
+abbrev start : tie.Else1 → tie.Start
+start c = c .before .before
+
+seen : (c : tie.Else1) → start c .args .seen ≡ true
+seen c = not-false _ (c .if1 .left)
+
+abbrev asked : tie.After-o → tie.Else1
+asked c = c .before .before .before .before
+
+-- behind `content_type_ext`'s answer `Of(o, n)`: the line supplies that
+supplied : (c : tie.After-o) →
+    let a = start (asked c) .args in
+    let g = c .o .given .0 in
+    contentTypeExt (part (a .h .now) (a .at) (a .end)) ≡ Of (g .0) (g .1 .0)
+supplied c = sym (c .before .before .content-type-ext .ensures) ∙ c .o .given .1
+
+-- ---- no Content-Type was seen
 returns : tie.Need-returns
 unfolding byBoundary
 returns c = rw (not-true (c .before .before .before .args .seen) (c .before .if1 .taken)) (c .by-type .ensures)
 
--- the sum does not wrap, behind if1, content_type_ext Of(o, n)
+-- ---- one was seen, and the line supplies a boundary
 add-t15 : tie.Need-add-t15
 add-t15 c =
-    let after-content-type-ext = c .before .before .before in
-    let content-type-ext-ensures = after-content-type-ext .content-type-ext .ensures in
-    let pre = after-content-type-ext .before .before .before .before .pre in
-    omega (arith, ext-room _ _ _ _ _ (pre .0) (pre .1) (sym content-type-ext-ensures ∙ c .before .o .given .1))
+    let pre = start (asked (c .before)) .pre in
+    omega (arith, ext-room _ _ _ _ _ (pre .0) (pre .1) (supplied (c .before)))
 
--- a way out, behind if1, content_type_ext Of(o, n)
 returns-2 : tie.Need-returns-2
 returns-2 c =
-    let after-content-type-ext = c .before .before .before in
-    let content-type-ext-ensures = after-content-type-ext .content-type-ext .ensures in
-    let after-if1 = after-content-type-ext .before .before in
-    let if1-left = after-if1 .if1 .left in
-    let start = after-if1 .before .before in
-    let pre = start .pre in
-    rw (not-false (start .args .seen) if1-left) (says-ext _ _ _ _ (pre .0) (pre .1) _ _ (sym content-type-ext-ensures ∙ c .before .o .given .1))
+    let other = asked (c .before) in
+    let pre = start other .pre in
+    rw (seen other) (says-ext _ _ _ _ (pre .0) (pre .1) _ _ (supplied (c .before)))
 
--- a way out, behind if1, content_type_ext Unsupplied, by_type2
+-- ---- it supplies none: what it says as a Content-Type counts
 returns-3 : tie.Need-returns-3
 returns-3 c =
-    let after-content-type-ext = c .before .before .before in
-    let content-type-ext-ensures = after-content-type-ext .content-type-ext .ensures in
-    let after-if1 = after-content-type-ext .before .before in
-    let if1-left = after-if1 .if1 .left in
-    let start = after-if1 .before .before in
-    let pre = start .pre in
-    rw (not-false (start .args .seen) if1-left) (says-no-ext _ _ _ _ (pre .0) (pre .1) _ (sym content-type-ext-ensures ∙ c .before .enum-told .given .1) (c .by-type2 .ensures))
+    let called = c .before .before .before in
+    let other = called .before .before in
+    let pre = start other .pre in
+    let none = sym (called .content-type-ext .ensures) ∙ c .before .enum-told .given .1 in
+    rw (seen other) (says-no-ext _ _ _ _ (pre .0) (pre .1) _ none (c .by-type2 .ensures))
 
 pub supply-spec : {M : Type 1} → statement M
 supply-spec =

@@ -1,53 +1,52 @@
--- `fields::common::transfer_encoding` meets its contract. Assumes nothing.
-use mathlib.Core.Path.{sym, ap, _∙_}
+-- `fields::common::transfer_encoding` meets its contract: behind the field's name and spaces the encoding is read. Assumes nothing.
+use mathlib.Core.Path.{_≡_, sym, ap, _∙_}
+use mathlib.Core.Bool.{true}
+use Prim.Native.Nat.{_+_, _≤_}
 use native.Mathlib.Omega.{arith}
+use lib.ListN.{length}
 use borrow.Author.Needs.{needs}
 use borrow.Author.Tests.{not-true, not-false}
 use Rattle.reading.proofs.Words.{raised-long}
+use Rattle.reading.specs.Bytes.{raised, startsWith}
 use Rattle.fields.specs.Common.{encodingNamed, encodingField, behindSpaces, transferEncoding}
 use Rattle.fields.specs.declared.runs.Run.the-variants.{Spaces}
 use Rattle.fields.proofs.Led.{run-room, run-rest}
 use Rattle.fields.proofs.common.transfer_encoding.Statement.{statement}
 use Rattle.fields.proofs.common.transfer_encoding.Tie as tie
 
--- a way out, behind starts_with_any_case, if1
+-- ---- what is known
+
+abbrev start : tie.Else1 → tie.Start
+start c = c .before .before .before .before
+
+-- behind the test, where the line is not turned away: the field's name opens it, in any case
+field-opens : (c : tie.Else1) → startsWith (raised encodingField) (raised (start c .args .l .now)) ≡ true
+field-opens c = sym (c .before .starts-with-any-case .ensures) ∙ not-false _ (c .if1 .left)
+
+-- behind `leading`: the spaces behind the name lie inside
+spaces-inside : (c : tie.After-leading) → length encodingField + c .leading .result ≤ length (start (c .before .before) .args .l .now)
+spaces-inside c =
+    let opens = c .before .before in
+    run-room Spaces (start opens .args .l .now) _ _ (c .leading .ensures) (raised-long encodingField _ (field-opens opens))
+
+-- ---- another field
 returns : tie.Need-returns
 unfolding transferEncoding
 returns c = rw (sym (c .before .starts-with-any-case .ensures) ∙ not-true _ (c .if1 .taken))
 
--- the difference is not below 0, behind starts_with_any_case, if1
+-- ---- this field
 sub-leading : tie.Need-sub-leading
-sub-leading c = raised-long encodingField _ (sym (c .before .starts-with-any-case .ensures) ∙ not-false _ (c .if1 .left))
+sub-leading c = raised-long encodingField _ (field-opens c)
 
--- the sum does not wrap, behind starts_with_any_case, if1, leading
 add-name : tie.Need-add-name
-add-name c =
-    let if1-left = c .before .before .if1 .left in
-    let after-starts-with-any-case = c .before .before .before in
-    let starts-with-any-case-ensures = after-starts-with-any-case .starts-with-any-case .ensures in
-    let start = after-starts-with-any-case .before .before .before in
-    omega (arith, run-room Spaces (start .args .l .now) 26 _ (c .leading .ensures) (raised-long encodingField _ (sym starts-with-any-case-ensures ∙ not-false _ if1-left)))
+add-name c = omega (arith, spaces-inside c)
 
--- the difference is not below 0, behind starts_with_any_case, if1, leading
-sub-encoding-named : tie.Need-sub-encoding-named
-sub-encoding-named c =
-    let if1-left = c .before .before .if1 .left in
-    let after-starts-with-any-case = c .before .before .before in
-    let starts-with-any-case-ensures = after-starts-with-any-case .starts-with-any-case .ensures in
-    let start = after-starts-with-any-case .before .before .before in
-    run-room Spaces (start .args .l .now) 26 _ (c .leading .ensures) (raised-long encodingField _ (sym starts-with-any-case-ensures ∙ not-false _ if1-left))
-
--- a way out, behind starts_with_any_case, if1, leading, encoding_named
 returns-2 : tie.Need-returns-2
 unfolding transferEncoding behindSpaces
 returns-2 c =
-    let leading-ensures = c .before .before .leading .ensures in
-    let after-if1 = c .before .before .before .before in
-    let if1-left = after-if1 .if1 .left in
-    let after-starts-with-any-case = after-if1 .before in
-    let starts-with-any-case-ensures = after-starts-with-any-case .starts-with-any-case .ensures in
-    let start = after-starts-with-any-case .before .before .before in
-    rw (sym starts-with-any-case-ensures ∙ not-false _ if1-left) (c .encoding-named .ensures ∙ ap encodingNamed (run-rest Spaces (start .args .l .now) 26 _ leading-ensures))
+    let called = c .before .before in
+    let opens = called .before .before in
+    rw (field-opens opens) (c .encoding-named .ensures ∙ ap encodingNamed (run-rest Spaces (start opens .args .l .now) (length encodingField) _ (called .leading .ensures)))
 
 pub transfer-encoding-spec : {M : Type 1} → statement M
 transfer-encoding-spec =
@@ -61,8 +60,8 @@ transfer-encoding-spec =
     (λ c. search needs)
     (λ c _. search needs)
     add-name
-    sub-encoding-named
-    sub-encoding-named
+    spaces-inside
+    spaces-inside
     (λ c. search needs)
     (λ c _. search needs)
     returns-2)

@@ -1,6 +1,7 @@
--- `fields::imap::dark_end` meets its contract: a search that has come down to n. Assumes nothing.
-use mathlib.Core.Path.{sym, ap, _∙_}
+-- `fields::imap::dark_end` meets its contract. The loop's invariant: the last dark byte of the first n is the line's last. Assumes nothing.
+use mathlib.Core.Path.{_≡_, sym, ap, _∙_}
 use mathlib.Core.Bool.{not}
+use Prim.Native.Nat.{_-_}
 use native.Mathlib.Omega.{arith}
 use borrow.Author.Needs.{needs}
 use Rattle.fields.specs.Imap.{dark}
@@ -14,29 +15,33 @@ Inv-loop l n₀ n = Back (dark l) l n
 abbrev μ-loop : tie.MeasureT-loop
 μ-loop l n₀ n = n
 
--- the index lies inside, in the loop
+-- ---- a turn
+abbrev turn : tie.After-is-white Inv-loop μ-loop → tie.In-loop Inv-loop μ-loop
+turn c = c .before .before
+
 shared-slice-read-is-white : tie.Need-shared-slice-read-is-white Inv-loop μ-loop
 shared-slice-read-is-white c = omega (arith, c .before .before .loop .inv .within)
 
--- a way out, in the loop behind is_white, if1
+-- behind `is_white`: the byte before n is dark if it is not white
+dark-told : (c : tie.After-is-white Inv-loop μ-loop) →
+    let loop = turn c .before in
+    dark (loop .before .before .args .l .now) (loop .loop .n - 1) ≡ not (c .is-white .result)
+unfolding dark
+dark-told c = ap not (sym (c .is-white .ensures))
+
+-- it is dark
 returns : tie.Need-returns Inv-loop μ-loop
-unfolding dark
 returns c =
-    let after-loop-test = c .before .before .before in
-    let loop-test-taken = after-loop-test .loop-test .taken in
-    let loop-inv = after-loop-test .before .loop .inv in
-    back-through loop-inv loop-test-taken (ap not (sym (c .before .is-white .ensures)) ∙ c .if1 .taken)
+    let called = c .before in
+    back-through (turn called .before .loop .inv) (turn called .loop-test .taken) (dark-told called ∙ c .if1 .taken)
 
--- the invariant holds after a turn, behind is_white, if1
+-- it is white: the search goes down
 loop-again : tie.Need-loop-again Inv-loop μ-loop
-unfolding dark
 loop-again c =
-    let after-loop-test = c .before .before .before in
-    let loop-test-taken = after-loop-test .loop-test .taken in
-    let loop-inv = after-loop-test .before .loop .inv in
-    back-on loop-inv loop-test-taken (ap not (sym (c .before .is-white .ensures)) ∙ c .if1 .left)
+    let called = c .before in
+    back-on (turn called .before .loop .inv) (turn called .loop-test .taken) (dark-told called ∙ c .if1 .left)
 
--- a way out, in the loop
+-- ---- all bytes are white
 returns-2 : tie.Need-returns-2 Inv-loop μ-loop
 returns-2 c = back-through-none (c .before .loop .inv) (c .loop-test .left)
 

@@ -1,61 +1,57 @@
--- `fields::imap::size_of` meets its contract. Assumes nothing.
-use mathlib.Core.Path.{sym, ap, _∙_}
+-- `fields::imap::size_of` meets its contract: what stands behind the last opening brace decides. Assumes nothing.
+use mathlib.Core.Path.{_≡_, sym, ap, _∙_}
+use mathlib.Core.Bool.{true}
+use Prim.Native.Nat.{_<_}
 use native.Mathlib.Omega.{arith}
+use lib.ListN.{length}
 use borrow.Author.Needs.{needs}
 use borrow.Author.Tests.{not-true, not-false}
 use Rattle.reading.proofs.Words.{rest-is}
+use Rattle.reading.specs.Bytes.{endsWith}
+use Rattle.reading.specs.Text.{text}
 use Rattle.fields.specs.Imap.{braced, fromBrace, sizeOf}
 use Rattle.fields.proofs.Last.{last-inside}
 use Rattle.fields.proofs.imap.size_of.Statement.{statement}
 use Rattle.fields.proofs.imap.size_of.Tie as tie
 
--- a way out, behind ends_with, if1
+-- ---- what is known
+
+abbrev start : tie.Else1 → tie.Start
+start c = c .before .before .before .before
+
+-- behind the test, where the line is not turned away: it ends in a closing brace
+brace-ends : (c : tie.Else1) → endsWith (text "}") (start c .args .l .now) ≡ true
+brace-ends c = sym (c .before .ends-with .ensures) ∙ not-false _ (c .if1 .left)
+
+-- behind `find_last`'s answer `At(p)`: that place lies inside
+brace-inside : (c : tie.After-p) → c .p .given .0 .0 < length (start (c .before .before .before) .args .l .now)
+brace-inside c = last-inside _ _ _ (sym (c .before .before .find-last .ensures) ∙ c .p .given .1)
+
+-- ---- no closing brace
 returns : tie.Need-returns
 unfolding sizeOf
 returns c = rw (sym (c .before .ends-with .ensures) ∙ not-true _ (c .if1 .taken))
 
--- the sum does not wrap, behind ends_with, if1, find_last At(p)
+-- ---- an opening one at p
 add-from : tie.Need-add-from
-add-from c =
-    let find-last-ensures = c .before .before .before .find-last .ensures in
-    omega (arith, last-inside _ _ _ (sym find-last-ensures ∙ c .before .p .given .1))
+add-from c = omega (arith, brace-inside (c .before))
 
--- the difference is not below 0, behind ends_with, if1, find_last At(p)
 sub-braced : tie.Need-sub-braced
-sub-braced c =
-    let find-last-ensures = c .before .before .before .find-last .ensures in
-    omega (arith, last-inside _ _ _ (sym find-last-ensures ∙ c .before .p .given .1))
+sub-braced c = omega (arith, brace-inside (c .before))
 
--- the part begins at or before its end, behind ends_with, if1, find_last At(p)
-part-braced-start : tie.Need-part-braced-start
-part-braced-start c =
-    let find-last-ensures = c .before .before .before .find-last .ensures in
-    omega (arith, last-inside _ _ _ (sym find-last-ensures ∙ c .before .p .given .1))
-
--- a way out, behind ends_with, if1, find_last At(p), braced
 returns-2 : tie.Need-returns-2
 unfolding sizeOf fromBrace
 returns-2 c =
-    let after-p = c .before .before .before in
-    let p-is = after-p .p .given .1 in
-    let after-find-last = after-p .before .before in
-    let find-last-ensures = after-find-last .find-last .ensures in
-    let after-if1 = after-find-last .before in
-    let if1-left = after-if1 .if1 .left in
-    let after-ends-with = after-if1 .before in
-    let ends-with-ensures = after-ends-with .ends-with .ensures in
-    let start = after-ends-with .before .before .before in
-    rw (sym ends-with-ensures ∙ not-false _ if1-left, sym find-last-ensures ∙ p-is) (c .braced .ensures ∙ ap braced (rest-is (start .args .l .now) _))
+    let found = c .before .before .before in
+    let called = found .before .before in
+    rw (brace-ends (called .before), sym (called .find-last .ensures) ∙ found .p .given .1) (c .braced .ensures ∙ ap braced (rest-is (start (called .before) .args .l .now) _))
 
--- a way out, behind ends_with, if1, find_last Nowhere
+-- ---- none
 returns-3 : tie.Need-returns-3
 unfolding sizeOf fromBrace
 returns-3 c =
-    let find-last-ensures = c .before .before .find-last .ensures in
-    let after-if1 = c .before .before .before in
-    let if1-left = after-if1 .if1 .left in
-    let ends-with-ensures = after-if1 .before .ends-with .ensures in
-    rw (sym ends-with-ensures ∙ not-false _ if1-left, sym find-last-ensures ∙ c .enum-told .given .1)
+    let called = c .before .before in
+    rw (brace-ends (called .before), sym (called .find-last .ensures) ∙ c .enum-told .given .1)
 
 pub size-of-spec : {M : Type 1} → statement M
 size-of-spec =
@@ -68,7 +64,7 @@ size-of-spec =
     (λ c. search needs)
     add-from
     sub-braced
-    part-braced-start
+    sub-braced
     (λ c. search needs)
     (λ c _. search needs)
     (λ c. search needs)

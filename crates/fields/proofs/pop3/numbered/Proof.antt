@@ -1,52 +1,59 @@
--- `fields::pop3::numbered` meets its contract. Assumes nothing.
-use mathlib.Core.Path.{sym, ap, _∙_}
+-- `fields::pop3::numbered` meets its contract: digits, one at least, that are a number of octets, and what follows them. Assumes nothing.
+use mathlib.Core.Path.{_≡_, sym, ap, _∙_}
+use mathlib.Core.Bool.{true}
 use native.Mathlib.Omega.{arith}
+use lib.Dec.{ltb}
+use lib.ListN.{take}
 use borrow.Author.Needs.{needs}
 use borrow.Author.Tests.{not-true, not-false}
 use Rattle.fields.specs.Pop3.{octets, octetsFollow, numbered}
+use Rattle.fields.specs.Runs.{lead}
 use Rattle.fields.specs.declared.runs.Run.the-variants.{Digits}
 use Rattle.fields.proofs.Behind.{run-none, run-some, run-within, run-length, run-is, behind-run}
 use Rattle.fields.proofs.pop3.numbered.Statement.{statement}
 use Rattle.fields.proofs.pop3.numbered.Tie as tie
 
--- a way out, behind leading, if1
+-- ---- what is known
+
+abbrev start : tie.Else1 → tie.Start
+start c = c .before .before .before
+
+-- behind the digits, one at least
+digits-some : (c : tie.Else1) → ltb 0 (lead Digits (start c .args .l .now)) ≡ true
+digits-some c = run-some Digits _ (c .before .leading .ensures) (omega arith)
+
+-- behind `octets`: it told whether they are a number of octets
+octets-told : (c : tie.After-octets) →
+    let l = start (c .before .before) .args .l .now in
+    octets (take (lead Digits l) l) ≡ c .octets .result
+octets-told c =
+    let digits = c .before .before in
+    ap octets (sym (run-is Digits (start digits .args .l .now) (digits .before .leading .ensures))) ∙ sym (c .octets .ensures)
+
+-- ---- no digit
 returns : tie.Need-returns
 unfolding numbered
 returns c = rw (run-none Digits _ (c .before .leading .ensures) (omega arith))
 
--- the index lies inside, behind leading, if1
+-- ---- digits that are not a number of octets
 slice-aggregate-octets : tie.Need-slice-aggregate-octets
 slice-aggregate-octets c = run-length Digits _ (c .before .before .leading .ensures)
 
--- a way out, behind leading, if1, octets, if2
 returns-2 : tie.Need-returns-2
 unfolding numbered
-returns-2 c =
-    let after-leading = c .before .before .before .before in
-    let leading-ensures = after-leading .leading .ensures in
-    let start = after-leading .before .before in
-    rw (
-      run-some Digits _ leading-ensures (omega arith),
-      ap octets (sym (run-is Digits (start .args .l .now) leading-ensures)) ∙ sym (c .before .octets .ensures) ∙ not-true _
-          (c .if2 .taken),
-    )
+returns-2 c = rw (digits-some (c .before .before .before), octets-told (c .before) ∙ not-true _ (c .if2 .taken))
 
--- the difference is not below 0, behind leading, if1, octets, if2
+-- ---- a number of octets
 sub-octets-follow : tie.Need-sub-octets-follow
 sub-octets-follow c = run-within Digits _ (c .before .before .before .before .leading .ensures)
 
--- a way out, behind leading, if1, octets, if2, octets_follow
 returns-3 : tie.Need-returns-3
 unfolding numbered
 returns-3 c =
-    let if2-left = c .before .before .if2 .left in
-    let after-octets = c .before .before .before in
-    let octets-ensures = after-octets .octets .ensures in
-    let after-leading = after-octets .before .before .before in
-    let leading-ensures = after-leading .leading .ensures in
-    let l = after-leading .before .before .args .l .now in
-    rw (run-some Digits _ leading-ensures (omega arith), ap octets (sym (run-is Digits l leading-ensures)) ∙ sym octets-ensures ∙ not-false _ if2-left)
-    (c .octets-follow .ensures ∙ ap octetsFollow (behind-run Digits l leading-ensures))
+    let number = c .before .before in
+    let digits = number .before .before .before in
+    let behind = behind-run Digits (start digits .args .l .now) (digits .before .leading .ensures) in
+    rw (digits-some digits, octets-told (number .before) ∙ not-false _ (number .if2 .left)) (c .octets-follow .ensures ∙ ap octetsFollow behind)
 
 pub numbered-spec : {M : Type 1} → statement M
 numbered-spec =

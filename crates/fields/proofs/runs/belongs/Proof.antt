@@ -6,32 +6,32 @@ use Rattle.fields.specs.Runs.{runs}
 use Rattle.fields.proofs.runs.belongs.Statement.{statement}
 use Rattle.fields.proofs.runs.belongs.Tie as tie
 
--- a way out, behind Spaces
+-- spaces
 returns : tie.Need-returns
 unfolding runs
 returns c = rw (c .enum-told .given .1)
 
--- a way out, behind Blanks, is_blank
+-- blanks
 returns-2 : tie.Need-returns-2
 unfolding runs
 returns-2 c = rw (c .before .enum-told2 .given .1) (c .is-blank .ensures)
 
--- a way out, behind PopWhite, is_pop_white
+-- pop white
 returns-3 : tie.Need-returns-3
 unfolding runs
 returns-3 c = rw (c .before .enum-told3 .given .1) (c .is-pop-white .ensures)
 
--- a way out, behind Digits, is_digit
+-- digits
 returns-4 : tie.Need-returns-4
 unfolding runs
 returns-4 c = rw (c .before .enum-told4 .given .1) (c .is-digit .ensures)
 
--- a way out, behind Dark, is_white
+-- what is not white
 returns-5 : tie.Need-returns-5
 unfolding runs
 returns-5 c = rw (c .before .enum-told5 .given .1) (ap not (c .is-white .ensures))
 
--- a way out, behind Bare, ends_bare
+-- what does not end an unquoted boundary
 returns-6 : tie.Need-returns-6
 unfolding runs
 returns-6 c = rw (c .before .enum-told6 .given .1) (ap not (c .ends-bare .ensures))

@@ -1,4 +1,4 @@
--- `fields::runs::decimal` meets its contract: the digits up to i are worth n, at most max. Assumes nothing.
+-- `fields::runs::decimal` meets its contract. The loop's invariant: the digits up to i are worth n, at most max. Assumes nothing.
 use Prim.Native.Nat.{_-_}
 use native.Mathlib.Omega.{arith}
 use lib.ListN.{length}
@@ -13,33 +13,29 @@ Inv-loop digits max n₀ i₀ n i = Added max digits n i
 abbrev μ-loop : tie.MeasureT-loop
 μ-loop digits max n₀ i₀ n i = length digits - i
 
--- a way out, in the loop behind digit, if1
+-- ---- a turn, behind `digit`
+abbrev turn : tie.After-digit Inv-loop μ-loop → tie.In-loop Inv-loop μ-loop
+turn c = c .before .before
+
+-- the digit alone is more than max
 returns : tie.Need-returns Inv-loop μ-loop
 returns c =
-    let after-loop-test = c .before .before .before in
-    let loop-test-taken = after-loop-test .loop-test .taken in
-    let loop-inv = after-loop-test .before .loop .inv in
-    added-over loop-inv loop-test-taken (c .before .digit .ensures) (omega arith)
+    let called = c .before in
+    added-over (turn called .before .loop .inv) (turn called .loop-test .taken) (called .digit .ensures) (omega arith)
 
--- a way out, in the loop behind digit, if1, if2
+-- ten times n and the digit are
 returns-2 : tie.Need-returns-2 Inv-loop μ-loop
 returns-2 c =
-    let digit-ensures = c .before .before .digit .ensures in
-    let after-loop-test = c .before .before .before .before in
-    let loop-test-taken = after-loop-test .loop-test .taken in
-    let loop-inv = after-loop-test .before .loop .inv in
-    added-over loop-inv loop-test-taken digit-ensures (omega arith)
+    let called = c .before .before in
+    added-over (turn called .before .loop .inv) (turn called .loop-test .taken) (called .digit .ensures) (omega arith)
 
--- the invariant holds after a turn, behind digit, if1, if2
+-- they are not: the next digit is read
 loop-again : tie.Need-loop-again Inv-loop μ-loop
 loop-again c =
-    let digit-ensures = c .before .before .digit .ensures in
-    let after-loop-test = c .before .before .before .before in
-    let loop-test-taken = after-loop-test .loop-test .taken in
-    let loop-inv = after-loop-test .before .loop .inv in
-    added-on loop-inv loop-test-taken digit-ensures (c .before .if1 .left) (c .if2 .left)
+    let called = c .before .before in
+    added-on (turn called .before .loop .inv) (turn called .loop-test .taken) (called .digit .ensures) (c .before .if1 .left) (c .if2 .left)
 
--- a way out, in the loop
+-- ---- behind the last digit
 returns-3 : tie.Need-returns-3 Inv-loop μ-loop
 returns-3 c = added-all (c .before .loop .inv) (c .loop-test .left)
 

@@ -1,4 +1,4 @@
--- `fields::runs::find_last` meets its contract: a search that has come down to n. Assumes nothing.
+-- `fields::runs::find_last` meets its contract. The loop's invariant: the last place below n that holds b is the line's last. Assumes nothing.
 use mathlib.Core.Path.{sym}
 use native.Mathlib.Omega.{arith}
 use borrow.Author.Needs.{needs}
@@ -14,27 +14,25 @@ Inv-loop l b n₀ n = Back (holds b l) l n
 abbrev μ-loop : tie.MeasureT-loop
 μ-loop l b n₀ n = n
 
--- the index lies inside, in the loop
+-- ---- a turn
 shared-slice-read-if1 : tie.Need-shared-slice-read-if1 Inv-loop μ-loop
 shared-slice-read-if1 c = omega (arith, c .before .before .loop .inv .within)
 
--- a way out, in the loop behind if1
+-- the byte before n is b
 returns : tie.Need-returns Inv-loop μ-loop
 unfolding holds
 returns c =
-    let loop-test-taken = c .before .before .loop-test .taken in
-    let loop-inv = c .before .before .before .loop .inv in
-    sym (back-here loop-inv loop-test-taken (eq-eqb _ _ (c .if1 .taken)))
+    let turn = c .before .before in
+    sym (back-here (turn .before .loop .inv) (turn .loop-test .taken) (eq-eqb _ _ (c .if1 .taken)))
 
--- the invariant holds after a turn, behind if1
+-- it is another: the search goes down
 loop-again : tie.Need-loop-again Inv-loop μ-loop
 unfolding holds
 loop-again c =
-    let loop-test-taken = c .before .before .loop-test .taken in
-    let loop-inv = c .before .before .before .loop .inv in
-    back-on loop-inv loop-test-taken (ne-eqb _ _ (c .if1 .left))
+    let turn = c .before .before in
+    back-on (turn .before .loop .inv) (turn .loop-test .taken) (ne-eqb _ _ (c .if1 .left))
 
--- a way out, in the loop
+-- ---- no byte is b
 returns-2 : tie.Need-returns-2 Inv-loop μ-loop
 returns-2 c = sym (back-in-vain (c .before .loop .inv) (c .loop-test .left))
 

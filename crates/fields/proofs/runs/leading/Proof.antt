@@ -1,4 +1,4 @@
--- `fields::runs::leading` meets its contract: a run counted up to i. Assumes nothing.
+-- `fields::runs::leading` meets its contract. The loop's invariant: the run goes up to i at least. Assumes nothing.
 use mathlib.Core.Path.{sym, _∙_}
 use Prim.Native.Nat.{_-_}
 use lib.ListN.{length}
@@ -14,23 +14,23 @@ Inv-loop l run i₀ i = Led run l i
 abbrev μ-loop : tie.MeasureT-loop
 μ-loop l run i₀ i = length l - i
 
--- a way out, in the loop behind belongs, if1
+-- ---- a turn, behind `belongs`
+abbrev turn : tie.After-belongs Inv-loop μ-loop → tie.In-loop Inv-loop μ-loop
+turn c = c .before .before
+
+-- the byte at i ends the run
 returns : tie.Need-returns Inv-loop μ-loop
 returns c =
-    let after-loop-test = c .before .before .before in
-    let loop-test-taken = after-loop-test .loop-test .taken in
-    let loop-inv = after-loop-test .before .loop .inv in
-    led-stop loop-inv loop-test-taken (sym (c .before .belongs .ensures) ∙ not-true _ (c .if1 .taken))
+    let called = c .before in
+    led-stop (turn called .before .loop .inv) (turn called .loop-test .taken) (sym (called .belongs .ensures) ∙ not-true _ (c .if1 .taken))
 
--- the invariant holds after a turn, behind belongs, if1
+-- it belongs to it
 loop-again : tie.Need-loop-again Inv-loop μ-loop
 loop-again c =
-    let after-loop-test = c .before .before .before in
-    let loop-test-taken = after-loop-test .loop-test .taken in
-    let loop-inv = after-loop-test .before .loop .inv in
-    led-on loop-inv loop-test-taken (sym (c .before .belongs .ensures) ∙ not-false _ (c .if1 .left))
+    let called = c .before in
+    led-on (turn called .before .loop .inv) (turn called .loop-test .taken) (sym (called .belongs .ensures) ∙ not-false _ (c .if1 .left))
 
--- a way out, in the loop
+-- ---- the run takes the whole line
 returns-2 : tie.Need-returns-2 Inv-loop μ-loop
 returns-2 c = led-all (c .before .loop .inv) (c .loop-test .left)
 

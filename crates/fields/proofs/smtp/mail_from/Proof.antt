@@ -1,50 +1,43 @@
--- `fields::smtp::mail_from` meets its contract. Assumes nothing.
-use mathlib.Core.Path.{sym, _∙_}
+-- `fields::smtp::mail_from` meets its contract: behind the field's name the address goes up to > or the line's end. Assumes nothing.
+use mathlib.Core.Path.{_≡_, sym, _∙_}
+use mathlib.Core.Bool.{true}
 use native.Mathlib.Omega.{arith}
 use borrow.Author.Needs.{needs}
 use borrow.Author.Tests.{not-true, not-false}
 use Rattle.reading.proofs.Words.{rest-is, starts-long}
+use Rattle.reading.specs.Bytes.{startsWith}
 use Rattle.fields.specs.Smtp.{fromField, closing, upToEnd, mailFrom}
 use Rattle.fields.proofs.smtp.mail_from.Statement.{statement}
 use Rattle.fields.proofs.smtp.mail_from.Tie as tie
 
--- a way out, behind starts_with, if1
+-- ---- no such field
 returns : tie.Need-returns
 unfolding mailFrom
 returns c = rw (sym (c .before .starts-with .ensures) ∙ not-true _ (c .if1 .taken))
 
--- the difference is not below 0, behind starts_with, if1
+-- ---- its name opens the line
+field-opens : (c : tie.Else1) → startsWith fromField (c .before .before .before .before .args .l .now) ≡ true
+field-opens c = sym (c .before .starts-with .ensures) ∙ not-false _ (c .if1 .left)
+
 sub-find-byte : tie.Need-sub-find-byte
-sub-find-byte c = omega (arith, starts-long fromField _ (sym (c .before .starts-with .ensures) ∙ not-false _ (c .if1 .left)))
+sub-find-byte c = omega (arith, starts-long fromField _ (field-opens c))
 
--- the difference is not below 0, behind starts_with, if1, find_byte Nowhere
 sub-t15 : tie.Need-sub-t15
-sub-t15 c =
-    let after-if1 = c .before .before .before .before in
-    let if1-left = after-if1 .if1 .left in
-    let starts-with-ensures = after-if1 .before .starts-with .ensures in
-    omega (arith, starts-long fromField _ (sym starts-with-ensures ∙ not-false _ if1-left))
+sub-t15 c = omega (arith, starts-long fromField _ (field-opens (c .before .before .before .before)))
 
--- a way out, behind starts_with, if1, find_byte At(n)
+-- > stands at n
 returns-2 : tie.Need-returns-2
 unfolding mailFrom closing upToEnd
 returns-2 c =
-    let after-find-byte = c .before .before .before in
-    let find-byte-ensures = after-find-byte .find-byte .ensures in
-    let after-if1 = after-find-byte .before .before in
-    let if1-left = after-if1 .if1 .left in
-    let starts-with-ensures = after-if1 .before .starts-with .ensures in
-    rw (sym starts-with-ensures ∙ not-false _ if1-left, rw rest-is at (sym find-byte-ensures ∙ c .before .n .given .1))
+    let called = c .before .before .before in
+    rw (field-opens (called .before .before), rw rest-is at (sym (called .find-byte .ensures) ∙ c .before .n .given .1))
 
--- a way out, behind starts_with, if1, find_byte Nowhere
+-- it stands nowhere
 returns-3 : tie.Need-returns-3
 unfolding mailFrom closing upToEnd
 returns-3 c =
-    let find-byte-ensures = c .before .before .find-byte .ensures in
-    let after-if1 = c .before .before .before .before in
-    let if1-left = after-if1 .if1 .left in
-    let starts-with-ensures = after-if1 .before .starts-with .ensures in
-    rw (sym starts-with-ensures ∙ not-false _ if1-left, rw rest-is at (sym find-byte-ensures ∙ c .enum-told .given .1))
+    let called = c .before .before in
+    rw (field-opens (called .before .before), rw rest-is at (sym (called .find-byte .ensures) ∙ c .enum-told .given .1))
 
 pub mail-from-spec : {M : Type 1} → statement M
 mail-from-spec =

@@ -1,42 +1,40 @@
--- `fields::smtp::rcpt_to` meets its contract. Assumes nothing.
-use mathlib.Core.Path.{sym, _∙_}
+-- `fields::smtp::rcpt_to` meets its contract: behind the field's name the address goes up to a required >. Assumes nothing.
+use mathlib.Core.Path.{_≡_, sym, _∙_}
+use mathlib.Core.Bool.{true}
 use native.Mathlib.Omega.{arith}
 use borrow.Author.Needs.{needs}
 use borrow.Author.Tests.{not-true, not-false}
 use Rattle.reading.proofs.Words.{rest-is, starts-long}
+use Rattle.reading.specs.Bytes.{startsWith}
 use Rattle.fields.specs.Smtp.{toField, closing, required, rcptTo}
 use Rattle.fields.proofs.smtp.rcpt_to.Statement.{statement}
 use Rattle.fields.proofs.smtp.rcpt_to.Tie as tie
 
--- a way out, behind starts_with, if1
+-- ---- no such field
 returns : tie.Need-returns
 unfolding rcptTo
 returns c = rw (sym (c .before .starts-with .ensures) ∙ not-true _ (c .if1 .taken))
 
--- the difference is not below 0, behind starts_with, if1
-sub-find-byte : tie.Need-sub-find-byte
-sub-find-byte c = omega (arith, starts-long toField _ (sym (c .before .starts-with .ensures) ∙ not-false _ (c .if1 .left)))
+-- ---- its name opens the line
+field-opens : (c : tie.Else1) → startsWith toField (c .before .before .before .before .args .l .now) ≡ true
+field-opens c = sym (c .before .starts-with .ensures) ∙ not-false _ (c .if1 .left)
 
--- a way out, behind starts_with, if1, find_byte At(n)
+sub-find-byte : tie.Need-sub-find-byte
+sub-find-byte c = omega (arith, starts-long toField _ (field-opens c))
+
+-- > stands at n
 returns-2 : tie.Need-returns-2
 unfolding rcptTo closing required
 returns-2 c =
-    let after-find-byte = c .before .before .before in
-    let find-byte-ensures = after-find-byte .find-byte .ensures in
-    let after-if1 = after-find-byte .before .before in
-    let if1-left = after-if1 .if1 .left in
-    let starts-with-ensures = after-if1 .before .starts-with .ensures in
-    rw (sym starts-with-ensures ∙ not-false _ if1-left, rw rest-is at (sym find-byte-ensures ∙ c .before .n .given .1))
+    let called = c .before .before .before in
+    rw (field-opens (called .before .before), rw rest-is at (sym (called .find-byte .ensures) ∙ c .before .n .given .1))
 
--- a way out, behind starts_with, if1, find_byte Nowhere
+-- it stands nowhere
 returns-3 : tie.Need-returns-3
 unfolding rcptTo closing required
 returns-3 c =
-    let find-byte-ensures = c .before .before .find-byte .ensures in
-    let after-if1 = c .before .before .before .before in
-    let if1-left = after-if1 .if1 .left in
-    let starts-with-ensures = after-if1 .before .starts-with .ensures in
-    rw (sym starts-with-ensures ∙ not-false _ if1-left, rw rest-is at (sym find-byte-ensures ∙ c .enum-told .given .1))
+    let called = c .before .before in
+    rw (field-opens (called .before .before), rw rest-is at (sym (called .find-byte .ensures) ∙ c .enum-told .given .1))
 
 pub rcpt-to-spec : {M : Type 1} → statement M
 rcpt-to-spec =
