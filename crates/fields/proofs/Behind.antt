@@ -1,7 +1,7 @@
 -- A run counted by the code, and what stands behind it.
 -- Assumes nothing.
 use mathlib.Core.Path.{_≡_, ap, _∙_}
-use mathlib.Core.Bool.{true, false}
+use mathlib.Core.Bool.{Bool, true, false, _&&_}
 use mathlib.Core.List.{List}
 use Prim.Native.Nat.{ℕ, _-_, _≤_, _<_}
 use native.Mathlib.Omega.{arith}
@@ -32,3 +32,10 @@ module _ (r : Run) (l : List ℕ) {n : ℕ} (e : n ≡ lead r l) where
 
   pub behind-run : take (length l - n) (drop n l) ≡ drop (lead r l) l
   behind-run = rest-is l n ∙ ap (λ (k : ℕ). drop k l) e
+
+  -- ---- a run, one byte at least, and a test of what stands behind it
+  pub behind-none : (test : List ℕ → Bool) → n ≡ 0 → false ≡ (ltb 0 (lead r l) && test (drop (lead r l) l))
+  behind-none test h = rw (run-none h)
+
+  pub behind-some : (test : List ℕ → Bool) {t : Bool} → 0 < n → t ≡ test (take (length l - n) (drop n l)) → t ≡ (ltb 0 (lead r l) && test (drop (lead r l) l))
+  behind-some test h q = rw (run-some h) (q ∙ ap test behind-run)
