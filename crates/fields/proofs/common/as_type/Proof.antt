@@ -1,15 +1,15 @@
--- `fields::common::as_type` meets its contract. Assumes nothing.
+-- `fields::common::as_type` meets its contract: only a boundary that is there makes it a type. Assumes nothing.
 use borrow.Author.Needs.{needs}
 use Rattle.fields.specs.Common.{typed}
 use Rattle.fields.proofs.common.as_type.Statement.{statement}
 use Rattle.fields.proofs.common.as_type.Tie as tie
 
--- a way out, behind b
+-- a boundary
 returns : tie.Need-returns
 unfolding typed
 returns c = rw (c .before .b .given .1)
 
--- a way out, behind Unsupplied
+-- none
 returns-2 : tie.Need-returns-2
 unfolding typed
 returns-2 c = rw (c .enum-told .given .1)

@@ -15,63 +15,69 @@ use Rattle.fields.proofs.common.encoding_named.Tie as tie
 abbrev names : String → List ℕ → Bool
 names n l = same (raised (text n)) (raised l)
 
-not-7bit : (c : tie.Else1) → names "7bit\r\n" (c .before .before .before .before .args .l .now) ≡ false
+abbrev start : tie.Else1 → tie.Start
+start c = c .before .before .before .before
+
+abbrev no1 : tie.Else2 → tie.Else1
+no1 c = c .before .before .before
+
+abbrev no2 : tie.Else3 → tie.Else2
+no2 c = c .before .before .before
+
+abbrev no3 : tie.Else4 → tie.Else3
+no3 c = c .before .before .before
+
+not-7bit : (c : tie.Else1) → names "7bit\r\n" (start c .args .l .now) ≡ false
 not-7bit c = sym (c .before .equals-any-case .ensures) ∙ c .if1 .left
 
-not-8bit : (c : tie.Else2) → names "8bit\r\n" (c .before .before .before .before .before .before .before .args .l .now) ≡ false
+not-8bit : (c : tie.Else2) → names "8bit\r\n" (start (no1 c) .args .l .now) ≡ false
 not-8bit c = sym (c .before .equals-any-case2 .ensures) ∙ c .if2 .left
 
-not-binary : (c : tie.Else3) →
-    let start = c .before .before .before .before .before .before .before .before .before .before in
-    names "binary\r\n" (start .args .l .now) ≡ false
+not-binary : (c : tie.Else3) → names "binary\r\n" (start (no1 (no2 c)) .args .l .now) ≡ false
 not-binary c = sym (c .before .equals-any-case3 .ensures) ∙ c .if3 .left
 
-not-quoted-printable : (c : tie.Else4) →
-    let start = c .before .before .before .before .before .before .before .before .before .before .before .before .before in
-    names "quoted-printable\r\n" (start .args .l .now) ≡ false
+not-quoted-printable : (c : tie.Else4) → names "quoted-printable\r\n" (start (no1 (no2 (no3 c))) .args .l .now) ≡ false
 not-quoted-printable c = sym (c .before .equals-any-case4 .ensures) ∙ c .if4 .left
 
--- ---- the ways out, name by name, and none of them
+-- ---- 7bit
 returns : tie.Need-returns
 unfolding encodingNamed
 returns c = rw (sym (c .before .equals-any-case .ensures) ∙ c .if1 .taken)
 
+-- ---- 8bit
 returns-2 : tie.Need-returns-2
 unfolding encodingNamed
 returns-2 c = rw (not-7bit (c .before .before .before), sym (c .before .equals-any-case2 .ensures) ∙ c .if2 .taken)
 
+-- ---- binary
 returns-3 : tie.Need-returns-3
 unfolding encodingNamed
 returns-3 c =
-    let no2 = c .before .before .before in
-    let no1 = no2 .before .before .before in
-    rw (not-7bit no1, not-8bit no2, sym (c .before .equals-any-case3 .ensures) ∙ c .if3 .taken)
+    let past = c .before .before .before in
+    rw (not-7bit (no1 past), not-8bit past, sym (c .before .equals-any-case3 .ensures) ∙ c .if3 .taken)
 
+-- ---- quoted-printable
 returns-4 : tie.Need-returns-4
 unfolding encodingNamed
 returns-4 c =
-    let no3 = c .before .before .before in
-    let no2 = no3 .before .before .before in
-    let no1 = no2 .before .before .before in
-    rw (not-7bit no1, not-8bit no2, not-binary no3, sym (c .before .equals-any-case4 .ensures) ∙ c .if4 .taken)
+    let past = c .before .before .before in
+    rw (not-7bit (no1 (no2 past)), not-8bit (no2 past), not-binary past, sym (c .before .equals-any-case4 .ensures) ∙ c .if4 .taken)
 
+-- ---- base64
 returns-5 : tie.Need-returns-5
 unfolding encodingNamed
 returns-5 c =
-    let no4 = c .before .before .before in
-    let no3 = no4 .before .before .before in
-    let no2 = no3 .before .before .before in
-    let no1 = no2 .before .before .before in
-    rw (not-7bit no1, not-8bit no2, not-binary no3, not-quoted-printable no4, sym (c .before .equals-any-case5 .ensures) ∙ c .if5 .taken)
+    let past = c .before .before .before in
+    let past3 = no3 past in
+    rw (not-7bit (no1 (no2 past3)), not-8bit (no2 past3), not-binary past3, not-quoted-printable past, sym (c .before .equals-any-case5 .ensures) ∙ c .if5 .taken)
 
+-- ---- none of them
 returns-6 : tie.Need-returns-6
 unfolding encodingNamed
 returns-6 c =
-    let no4 = c .before .before .before in
-    let no3 = no4 .before .before .before in
-    let no2 = no3 .before .before .before in
-    let no1 = no2 .before .before .before in
-    rw (not-7bit no1, not-8bit no2, not-binary no3, not-quoted-printable no4, sym (c .before .equals-any-case5 .ensures) ∙ c .if5 .left)
+    let past = c .before .before .before in
+    let past3 = no3 past in
+    rw (not-7bit (no1 (no2 past3)), not-8bit (no2 past3), not-binary past3, not-quoted-printable past, sym (c .before .equals-any-case5 .ensures) ∙ c .if5 .left)
 
 pub encoding-named-spec : {M : Type 1} → statement M
 encoding-named-spec =

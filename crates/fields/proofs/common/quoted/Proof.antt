@@ -1,4 +1,4 @@
--- `fields::common::quoted` meets its contract. Assumes nothing.
+-- `fields::common::quoted` meets its contract, by whether the closing quote is found. Assumes nothing.
 use mathlib.Core.Path.{sym, _∙_}
 use borrow.Author.Needs.{needs}
 use Rattle.reading.proofs.Words.{rest-is}
@@ -6,12 +6,12 @@ use Rattle.fields.specs.Common.{closed, quoted}
 use Rattle.fields.proofs.common.quoted.Statement.{statement}
 use Rattle.fields.proofs.common.quoted.Tie as tie
 
--- a way out, behind find_byte At(n)
+-- it is
 returns : tie.Need-returns
 unfolding quoted closed
 returns c = rw (rw rest-is at (sym (c .before .before .before .find-byte .ensures) ∙ c .before .n .given .1))
 
--- a way out, behind find_byte Nowhere
+-- it is not
 returns-2 : tie.Need-returns-2
 unfolding quoted closed
 returns-2 c = rw (rw rest-is at (sym (c .before .before .find-byte .ensures) ∙ c .enum-told .given .1))

@@ -4,21 +4,22 @@ use Rattle.fields.proofs.Bdrys.{scan-had, scan-lacked}
 use Rattle.fields.proofs.common.scan_line.Statement.{statement}
 use Rattle.fields.proofs.common.scan_line.Tie as tie
 
--- a way out, behind first_encoding, boundary
+abbrev start : tie.After-first-encoding → tie.Start
+start c = c .before .before .before
+
+-- it was supplied before
 returns : tie.Need-returns
 returns c =
-    let after-first-encoding = c .before .before .before in
-    let first-encoding-ensures = after-first-encoding .first-encoding .ensures in
-    let start = after-first-encoding .before .before .before in
-    scan-had _ (start .args .at) (start .args .end) (start .args .known) _ first-encoding-ensures _ _ (c .before .boundary .given .1) (start .pre .2)
+    let called = c .before .before .before in
+    let a = start called .args in
+    scan-had _ (a .at) (a .end) (a .known) _ (called .first-encoding .ensures) _ _ (c .before .boundary .given .1) (start called .pre .2)
 
--- a way out, behind first_encoding Unsupplied, supply
+-- it was not: this line may supply it
 returns-2 : tie.Need-returns-2
 returns-2 c =
-    let after-first-encoding = c .before .before .before in
-    let first-encoding-ensures = after-first-encoding .first-encoding .ensures in
-    let start = after-first-encoding .before .before .before in
-    scan-lacked _ (start .args .at) (start .args .end) (start .args .known) _ first-encoding-ensures _ (c .before .enum-told .given .1) (c .supply .ensures)
+    let called = c .before .before .before in
+    let a = start called .args in
+    scan-lacked _ (a .at) (a .end) (a .known) _ (called .first-encoding .ensures) _ (c .before .enum-told .given .1) (c .supply .ensures)
 
 pub scan-line-spec : {M : Type 1} → statement M
 scan-line-spec =

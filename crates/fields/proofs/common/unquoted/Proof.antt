@@ -1,4 +1,4 @@
--- `fields::common::unquoted` meets its contract. Assumes nothing.
+-- `fields::common::unquoted` meets its contract: the boundary is as long as the run behind o. Assumes nothing.
 use mathlib.Core.Path.{ap}
 use borrow.Author.Needs.{needs}
 use Rattle.reading.proofs.Words.{rest-is}
@@ -7,7 +7,6 @@ use Rattle.fields.specs.declared.common.Bdry.the-variants.{Of}
 use Rattle.fields.proofs.common.unquoted.Statement.{statement}
 use Rattle.fields.proofs.common.unquoted.Tie as tie
 
--- a way out, behind leading
 returns : tie.Need-returns
 unfolding unquoted
 returns c = ap (Of (c .before .before .before .args .o)) (rw rest-is at (c .leading .ensures))

@@ -1,4 +1,4 @@
--- `fields::imap::append_size` meets its contract. Assumes nothing.
+-- `fields::imap::append_size` meets its contract: the size is read without the trailing white space. Assumes nothing.
 use mathlib.Core.Path.{sym}
 use native.Mathlib.Omega.{arith}
 use lib.Seq.{length-take-le}
@@ -8,13 +8,12 @@ use Rattle.fields.proofs.Last.{through-within}
 use Rattle.fields.proofs.imap.append_size.Statement.{statement}
 use Rattle.fields.proofs.imap.append_size.Tie as tie
 
--- the index lies inside, behind dark_end
+-- what is left of the line lies inside
 slice-aggregate-size-of : tie.Need-slice-aggregate-size-of
 slice-aggregate-size-of c =
     let l = c .before .before .before .args .l .now in
     sym (length-take-le _ l (omega (arith, c .before .dark-end .ensures, through-within (dark l) l)))
 
--- a way out, behind dark_end, size_of
 returns : tie.Need-returns
 unfolding appendSize trimmed
 returns c = rw (sym (c .before .before .dark-end .ensures)) (c .size-of .ensures)

@@ -1,17 +1,17 @@
--- `fields::runs::ends_bare` meets its contract. Assumes nothing.
+-- `fields::runs::ends_bare` meets its contract, byte by byte. Assumes nothing.
 use borrow.Author.Tests.{eq-eqb, ne-eqb}
 use Rattle.fields.proofs.runs.ends_bare.Statement.{statement}
 use Rattle.fields.proofs.runs.ends_bare.Tie as tie
 
--- a way out, behind if1
+-- a semicolon
 returns : tie.Need-returns
 returns c = rw (eq-eqb _ _ (c .if1 .taken))
 
--- a way out, behind if1, if2
+-- a space
 returns-2 : tie.Need-returns-2
 returns-2 c = rw (ne-eqb _ _ (c .before .if1 .left), eq-eqb _ _ (c .if2 .taken))
 
--- a way out, behind if1, if2
+-- neither: whether it is CR decides
 returns-3 : tie.Need-returns-3
 returns-3 c = rw (ne-eqb _ _ (c .before .if1 .left), ne-eqb _ _ (c .if2 .left))
 

@@ -1,10 +1,9 @@
--- `fields::smtp::is_data` meets its contract. Assumes nothing.
+-- `fields::smtp::is_data` meets its contract: it is one comparison. Assumes nothing.
 use borrow.Author.Needs.{needs}
 use Rattle.fields.specs.Smtp.{isData}
 use Rattle.fields.proofs.smtp.is_data.Statement.{statement}
 use Rattle.fields.proofs.smtp.is_data.Tie as tie
 
--- a way out, behind equals_any_case
 returns : tie.Need-returns
 unfolding isData
 returns c = c .equals-any-case .ensures

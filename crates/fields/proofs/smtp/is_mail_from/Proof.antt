@@ -1,10 +1,9 @@
--- `fields::smtp::is_mail_from` meets its contract. Assumes nothing.
+-- `fields::smtp::is_mail_from` meets its contract: it is one comparison. Assumes nothing.
 use borrow.Author.Needs.{needs}
 use Rattle.fields.specs.Smtp.{isMailFrom}
 use Rattle.fields.proofs.smtp.is_mail_from.Statement.{statement}
 use Rattle.fields.proofs.smtp.is_mail_from.Tie as tie
 
--- a way out, behind starts_with_any_case
 returns : tie.Need-returns
 unfolding isMailFrom
 returns c = c .starts-with-any-case .ensures
