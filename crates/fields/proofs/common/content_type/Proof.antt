@@ -39,6 +39,7 @@ returns : tie.Need-returns
 unfolding contentType
 returns c = rw (sym (c .before .starts-with .ensures) ∙ not-true _ (c .if1 .taken))
 
+-- ---- this field
 sub-find : tie.Need-sub-find
 sub-find c = starts-long typeField _ (field-opens c)
 

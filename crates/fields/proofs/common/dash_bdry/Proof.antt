@@ -36,15 +36,16 @@ returns c =
     let a = start (c .before) .args in
     rw (starts-append (dash []) (a .b .now) (a .l .now), sym (c .before .starts-with .ensures) ∙ not-true _ (c .if1 .taken))
 
--- ---- another boundary behind them
+-- ---- hyphens
 sub-starts-with : tie.Need-sub-starts-with
 sub-starts-with c = starts-long (dash []) _ (hyphens-open c)
 
+-- another boundary behind them
 returns-2 : tie.Need-returns-2
 unfolding dashBdry
 returns-2 c = rw (dashed (c .before) ∙ not-true _ (c .if2 .taken))
 
--- ---- this boundary: the line's end decides
+-- this boundary: the line's end decides
 returns-3 : tie.Need-returns-3
 unfolding dashBdry
 returns-3 c =

@@ -1,10 +1,11 @@
 -- `fields::common::encoding_named` meets its contract, name by name. Assumes nothing.
 use mathlib.Core.Path.{_≡_, sym, _∙_}
-use mathlib.Core.Bool.{Bool, false}
+use mathlib.Core.Bool.{Bool, false, cond}
 use mathlib.Core.List.{List}
 use Prim.Native.Nat.{ℕ}
 use Prim.Native.String.{String}
 use borrow.Author.Needs.{needs}
+use Rattle.events.specs.declared.Encoding.the-variants.{Unsaid, Base64}
 use Rattle.reading.specs.Bytes.{same, raised}
 use Rattle.reading.specs.Text.{text}
 use Rattle.fields.specs.Common.{encodingNamed}
@@ -39,45 +40,47 @@ not-binary c = sym (c .before .equals-any-case3 .ensures) ∙ c .if3 .left
 not-quoted-printable : (c : tie.Else4) → names "quoted-printable\r\n" (start (no1 (no2 (no3 c))) .args .l .now) ≡ false
 not-quoted-printable c = sym (c .before .equals-any-case4 .ensures) ∙ c .if4 .left
 
--- ---- 7bit
+-- behind the first four: base64 or none
+last-decides : (c : tie.Else4) →
+    let l = start (no1 (no2 (no3 c))) .args .l .now in
+    encodingNamed l ≡ cond (names "base64\r\n" l) Base64 Unsaid
+unfolding encodingNamed
+last-decides c =
+    let past3 = no3 c in
+    rw (not-7bit (no1 (no2 past3)), not-8bit (no2 past3), not-binary past3, not-quoted-printable c)
+
+-- ---- the ways out
+-- 7bit
 returns : tie.Need-returns
 unfolding encodingNamed
 returns c = rw (sym (c .before .equals-any-case .ensures) ∙ c .if1 .taken)
 
--- ---- 8bit
+-- 8bit
 returns-2 : tie.Need-returns-2
 unfolding encodingNamed
 returns-2 c = rw (not-7bit (c .before .before .before), sym (c .before .equals-any-case2 .ensures) ∙ c .if2 .taken)
 
--- ---- binary
+-- binary
 returns-3 : tie.Need-returns-3
 unfolding encodingNamed
 returns-3 c =
-    let past = c .before .before .before in
-    rw (not-7bit (no1 past), not-8bit past, sym (c .before .equals-any-case3 .ensures) ∙ c .if3 .taken)
+    let past2 = c .before .before .before in
+    rw (not-7bit (no1 past2), not-8bit past2, sym (c .before .equals-any-case3 .ensures) ∙ c .if3 .taken)
 
--- ---- quoted-printable
+-- quoted-printable
 returns-4 : tie.Need-returns-4
 unfolding encodingNamed
 returns-4 c =
-    let past = c .before .before .before in
-    rw (not-7bit (no1 (no2 past)), not-8bit (no2 past), not-binary past, sym (c .before .equals-any-case4 .ensures) ∙ c .if4 .taken)
+    let past3 = c .before .before .before in
+    rw (not-7bit (no1 (no2 past3)), not-8bit (no2 past3), not-binary past3, sym (c .before .equals-any-case4 .ensures) ∙ c .if4 .taken)
 
--- ---- base64
+-- base64
 returns-5 : tie.Need-returns-5
-unfolding encodingNamed
-returns-5 c =
-    let past = c .before .before .before in
-    let past3 = no3 past in
-    rw (not-7bit (no1 (no2 past3)), not-8bit (no2 past3), not-binary past3, not-quoted-printable past, sym (c .before .equals-any-case5 .ensures) ∙ c .if5 .taken)
+returns-5 c = rw (last-decides (c .before .before .before), sym (c .before .equals-any-case5 .ensures) ∙ c .if5 .taken)
 
--- ---- none of them
+-- none of them
 returns-6 : tie.Need-returns-6
-unfolding encodingNamed
-returns-6 c =
-    let past = c .before .before .before in
-    let past3 = no3 past in
-    rw (not-7bit (no1 (no2 past3)), not-8bit (no2 past3), not-binary past3, not-quoted-printable past, sym (c .before .equals-any-case5 .ensures) ∙ c .if5 .left)
+returns-6 c = rw (last-decides (c .before .before .before), sym (c .before .equals-any-case5 .ensures) ∙ c .if5 .left)
 
 pub encoding-named-spec : {M : Type 1} → statement M
 encoding-named-spec =

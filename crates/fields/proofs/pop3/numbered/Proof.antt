@@ -35,18 +35,19 @@ returns : tie.Need-returns
 unfolding numbered
 returns c = rw (run-none Digits _ (c .before .leading .ensures) (omega arith))
 
--- ---- digits that are not a number of octets
+-- ---- digits
 slice-aggregate-octets : tie.Need-slice-aggregate-octets
 slice-aggregate-octets c = run-length Digits _ (c .before .before .leading .ensures)
 
+-- they are not a number of octets
 returns-2 : tie.Need-returns-2
 unfolding numbered
 returns-2 c = rw (digits-some (c .before .before .before), octets-told (c .before) ∙ not-true _ (c .if2 .taken))
 
--- ---- a number of octets
 sub-octets-follow : tie.Need-sub-octets-follow
 sub-octets-follow c = run-within Digits _ (c .before .before .before .before .leading .ensures)
 
+-- they are: what follows them decides
 returns-3 : tie.Need-returns-3
 unfolding numbered
 returns-3 c =
