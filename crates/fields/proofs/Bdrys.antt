@@ -33,6 +33,7 @@ word-room w l o p e =
     let i = first-inside (stands w (drop o l)) (drop o l) p e in
     omega (arith, length-drop p (drop o l), length-drop o l)
 
+-- the same of a parameter's name
 pub named-room : (w l : List ℕ) (p : ℕ) → named w l ≡ At p → length typeField + p + length w ≤ length l
 unfolding named
 named-room w l p e = word-room w l (length typeField) p e

@@ -61,7 +61,9 @@ returns-2 c =
 
 -- ---- none: the bare one is sought
 bare-parameter-requires : tie.Need-bare-parameter-requires
-bare-parameter-requires c _ = starts-long typeField _ (field-opens (c .before .before .before .before .before))
+bare-parameter-requires c _ =
+    let called = c .before .before in
+    starts-long typeField _ (field-opens (called .before .before .before))
 
 returns-3 : tie.Need-returns-3
 unfolding contentType parameter named

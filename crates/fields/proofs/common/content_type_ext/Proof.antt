@@ -11,13 +11,16 @@ use Rattle.fields.proofs.common.content_type_ext.Tie as tie
 
 -- ---- what is known behind the tests
 
-quoted-opens : (c : tie.Then1) → startsWith (tab ++ quotedName) (c .before .before .before .before .args .l .now) ≡ true
+abbrev start : tie.After-starts-with → tie.Start
+start c = c .before .before .before
+
+quoted-opens : (c : tie.Then1) → startsWith (tab ++ quotedName) (start (c .before) .args .l .now) ≡ true
 quoted-opens c = sym (c .before .starts-with .ensures) ∙ c .if1 .taken
 
-not-quoted : (c : tie.Else1) → startsWith (tab ++ quotedName) (c .before .before .before .before .args .l .now) ≡ false
+not-quoted : (c : tie.Else1) → startsWith (tab ++ quotedName) (start (c .before) .args .l .now) ≡ false
 not-quoted c = sym (c .before .starts-with .ensures) ∙ c .if1 .left
 
-bare-opens : (c : tie.Then2) → startsWith (tab ++ bareName) (c .before .before .before .before .before .before .before .args .l .now) ≡ true
+bare-opens : (c : tie.Then2) → startsWith (tab ++ bareName) (start (c .before .before .before .before) .args .l .now) ≡ true
 bare-opens c = sym (c .before .starts-with2 .ensures) ∙ c .if2 .taken
 
 -- ---- a quoted parameter

@@ -20,7 +20,7 @@ start c = c .before .before .before .before
 hyphens-open : (c : tie.Else1) → startsWith (dash []) (start (c .before) .args .l .now) ≡ true
 hyphens-open c = sym (c .before .starts-with .ensures) ∙ not-false _ (c .if1 .left)
 
--- behind the second call: the line opens as it must if the boundary stands behind the hyphens
+-- behind the second call: it told whether the hyphens and the boundary open the line
 dashed : (c : tie.After-starts-with2) →
     let a = start (c .before .before .before) .args in
     startsWith (dash (a .b .now)) (a .l .now) ≡ c .starts-with2 .result
@@ -49,8 +49,8 @@ returns-2 c = rw (dashed (c .before) ∙ not-true _ (c .if2 .taken))
 returns-3 : tie.Need-returns-3
 unfolding dashBdry
 returns-3 c =
-    let other = c .before .before in
-    rw (dashed (other .before) ∙ not-false _ (other .if2 .left)) (c .ends-with .ensures)
+    let this = c .before .before in
+    rw (dashed (this .before) ∙ not-false _ (this .if2 .left)) (c .ends-with .ensures)
 
 pub dash-bdry-spec : {M : Type 1} → statement M
 dash-bdry-spec =

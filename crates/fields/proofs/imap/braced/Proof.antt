@@ -4,7 +4,7 @@ use mathlib.Core.Bool.{true, cond}
 use Prim.Native.Nat.{_^_}
 use native.Mathlib.Omega.{arith}
 use lib.Dec.{ltb}
-use lib.ListN.{take}
+use lib.ListN.{take, drop}
 use borrow.Author.Needs.{needs}
 use borrow.Author.Tests.{not-true, not-false}
 use Rattle.reading.specs.Bytes.{startsWith}
@@ -26,6 +26,14 @@ start c = c .before .before .before
 digits-some : (c : tie.Else1) → ltb 0 (lead Digits (start c .args .l .now)) ≡ true
 digits-some c = run-some Digits _ (c .before .leading .ensures) (omega arith)
 
+-- behind `starts_with`: it told whether a closing brace stands behind them
+brace-told : (c : tie.After-starts-with) →
+    let l = start (c .before .before .before) .args .l .now in
+    startsWith (text "}") (drop (lead Digits l) l) ≡ c .starts-with .result
+brace-told c =
+    let digits = c .before .before .before in
+    ap (startsWith _) (sym (behind-run Digits (start digits .args .l .now) (digits .before .leading .ensures))) ∙ sym (c .starts-with .ensures)
+
 -- behind the closing brace: what the digits are worth decides
 worth-decides : (c : tie.Else2) →
     let digits = c .before .before .before .before in
@@ -34,13 +42,8 @@ worth-decides : (c : tie.Else2) →
 unfolding braced
 worth-decides c =
     let digits = c .before .before .before .before in
-    let l = start digits .args .l .now in
-    let run = digits .before .leading .ensures in
-    rw (
-      digits-some digits,
-      ap (startsWith (text "}")) (sym (behind-run Digits l run)) ∙ sym (c .before .starts-with .ensures) ∙ not-false _ (c .if2 .left),
-      ap worth (sym (run-is Digits l run)),
-    )
+    let run = run-is Digits (start digits .args .l .now) (digits .before .leading .ensures) in
+    rw (digits-some digits, brace-told (c .before) ∙ not-false _ (c .if2 .left), ap worth (sym run))
 
 -- ---- no digit
 returns : tie.Need-returns
@@ -54,13 +57,12 @@ sub-starts-with c = run-within Digits _ (c .before .leading .ensures)
 -- no closing brace behind them
 returns-2 : tie.Need-returns-2
 unfolding braced
-returns-2 c =
-    let digits = c .before .before .before .before in
-    let closes = ap (startsWith _) (sym (behind-run Digits (start digits .args .l .now) (digits .before .leading .ensures))) in
-    rw (digits-some digits, closes ∙ sym (c .before .starts-with .ensures) ∙ not-true _ (c .if2 .taken))
+returns-2 c = rw (digits-some (c .before .before .before .before), brace-told (c .before) ∙ not-true _ (c .if2 .taken))
 
 slice-aggregate-decimal : tie.Need-slice-aggregate-decimal
-slice-aggregate-decimal c = run-length Digits _ (c .before .before .before .before .before .before .leading .ensures)
+slice-aggregate-decimal c =
+    let digits = c .before .before .before .before .before in
+    run-length Digits _ (digits .before .leading .ensures)
 
 -- their worth
 returns-3 : tie.Need-returns-3

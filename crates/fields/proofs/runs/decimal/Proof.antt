@@ -23,13 +23,13 @@ returns c =
     let called = c .before in
     added-over (turn called .before .loop .inv) (turn called .loop-test .taken) (called .digit .ensures) (omega arith)
 
--- ten times n and the digit are
+-- ten times n and the digit are more
 returns-2 : tie.Need-returns-2 Inv-loop μ-loop
 returns-2 c =
     let called = c .before .before in
     added-over (turn called .before .loop .inv) (turn called .loop-test .taken) (called .digit .ensures) (omega arith)
 
--- they are not: the next digit is read
+-- they are not: that is n behind the digit
 loop-again : tie.Need-loop-again Inv-loop μ-loop
 loop-again c =
     let called = c .before .before in

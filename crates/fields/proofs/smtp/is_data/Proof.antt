@@ -1,4 +1,4 @@
--- `fields::smtp::is_data` meets its contract: it is one comparison. Assumes nothing.
+-- `fields::smtp::is_data` meets its contract: the line is `DATA`, in any case. Assumes nothing.
 use borrow.Author.Needs.{needs}
 use Rattle.fields.specs.Smtp.{isData}
 use Rattle.fields.proofs.smtp.is_data.Statement.{statement}

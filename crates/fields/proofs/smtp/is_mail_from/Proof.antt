@@ -1,4 +1,4 @@
--- `fields::smtp::is_mail_from` meets its contract: it is one comparison. Assumes nothing.
+-- `fields::smtp::is_mail_from` meets its contract: `MAIL FROM:` opens the line, in any case. Assumes nothing.
 use borrow.Author.Needs.{needs}
 use Rattle.fields.specs.Smtp.{isMailFrom}
 use Rattle.fields.proofs.smtp.is_mail_from.Statement.{statement}

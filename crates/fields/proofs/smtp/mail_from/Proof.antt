@@ -22,6 +22,7 @@ field-opens c = sym (c .before .starts-with .ensures) ∙ not-false _ (c .if1 .l
 sub-find-byte : tie.Need-sub-find-byte
 sub-find-byte c = omega (arith, starts-long fromField _ (field-opens c))
 
+-- the address up to the line's end
 sub-t15 : tie.Need-sub-t15
 sub-t15 c = omega (arith, starts-long fromField _ (field-opens (c .before .before .before .before)))
 
