@@ -1,6 +1,6 @@
--- `reading::matched` meets its contract: the first k bytes match. Assumes nothing.
+-- `reading::matched` meets its contract. The loop's invariant: the first k bytes of b stand at the place. Assumes nothing.
 use mathlib.Core.Path.{sym, _∙_}
-use Prim.Native.Nat.{_-_}
+use Prim.Native.Nat.{_+_, _-_, _≤_}
 use native.Mathlib.Omega.{arith}
 use lib.ListN.{length, drop, length-drop}
 use lib.Seq.{drop-drop}
@@ -16,64 +16,56 @@ Inv-loop s at b k₀ k = Matched b (drop at s) k
 abbrev μ-loop : tie.MeasureT-loop
 μ-loop s at b k₀ k = length b - k
 
--- the difference is not below 0, in the loop
+-- ---- what is known in a turn
+
+abbrev start : tie.At-loop Inv-loop μ-loop → tie.Start Inv-loop μ-loop
+start c = c .before .before .before
+
+-- the region holds the k bytes behind the place
+inside : (c : tie.At-loop Inv-loop μ-loop) →
+    let a = start c .args in
+    a .at + c .loop .k ≤ length (a .s .now)
+inside c =
+    let a = start c .args in
+    omega (arith, c .loop .inv .room, length-drop (a .at) (a .s .now), start c .pre)
+
+-- b has a block more at k
+b-more : (c : tie.In-loop Inv-loop μ-loop) → c .before .loop .k + 16 ≤ length (start (c .before) .args .b .now)
+b-more c = omega (arith, c .loop-test .taken, c .before .loop .inv .within)
+
+-- ---- whether the region has one too
 sub-if1 : tie.Need-sub-if1 Inv-loop μ-loop
-sub-if1 c = c .before .before .before .before .pre
+sub-if1 c = start (c .before) .pre
 
--- the difference is not below 0, in the loop
 sub-if1-2 : tie.Need-sub-if1-2 Inv-loop μ-loop
-sub-if1-2 c =
-    let start = c .before .before .before .before in
-    omega (arith, c .before .loop .inv .room, length-drop (start .args .at) (start .args .s .now))
+sub-if1-2 c = omega (arith, inside (c .before))
 
--- the sum does not wrap, in the loop behind if1
+-- ---- it has: the two blocks are compared
 add-block-equals : tie.Need-add-block-equals Inv-loop μ-loop
-add-block-equals c =
-    let loop-inv = c .before .before .loop .inv in
-    let start = c .before .before .before .before .before in
-    omega (arith, loop-inv .room, length-drop (start .args .at) (start .args .s .now), start .pre)
+add-block-equals c = omega (arith, inside (c .before .before))
 
--- what `block_equals` requires, in the loop behind if1
 block-equals-requires : tie.Need-block-equals-requires Inv-loop μ-loop
-block-equals-requires c _ =
-    let loop-inv = c .before .before .loop .inv in
-    let start = c .before .before .before .before .before in
-    (omega (arith, c .if1 .left, loop-inv .room, length-drop (start .args .at) (start .args .s .now), start .pre), omega (arith, c .before .loop-test .taken, loop-inv .within))
+block-equals-requires c _ = (omega (arith, c .if1 .left, inside (c .before .before)), b-more (c .before))
 
--- a way out, in the loop behind if1, block_equals, if2
+-- they differ
 returns-2 : tie.Need-returns-2 Inv-loop μ-loop
 returns-2 c = c .before .before .before .before .loop .inv
 
--- the sum does not wrap, in the loop behind if1, block_equals, if2
+-- they are equal: on behind them
 add-k : tie.Need-add-k Inv-loop μ-loop
-add-k c =
-    let after-loop-test = c .before .before .before in
-    let loop-test-taken = after-loop-test .loop-test .taken in
-    let loop-inv = after-loop-test .before .loop .inv in
-    omega (arith, loop-test-taken, loop-inv .within)
+add-k c = omega (arith, b-more (c .before .before .before))
 
--- the measure falls, behind if1, block_equals, if2
 loop-less : tie.Need-loop-less Inv-loop μ-loop
-loop-less c =
-    let after-loop-test = c .before .before .before in
-    let loop-test-taken = after-loop-test .loop-test .taken in
-    let loop-inv = after-loop-test .before .loop .inv in
-    omega (arith, loop-test-taken, loop-inv .within)
+loop-less c = omega (arith, b-more (c .before .before .before))
 
--- the invariant holds after a turn, behind if1, block_equals, if2
 loop-again : tie.Need-loop-again Inv-loop μ-loop
 loop-again c =
-    let if1-left = c .before .before .if1 .left in
-    let after-loop-test = c .before .before .before in
-    let loop-test-taken = after-loop-test .loop-test .taken in
-    let after-loop = after-loop-test .before in
-    let loop-inv = after-loop .loop .inv in
-    let loop-k = after-loop .loop .k in
-    let start = after-loop .before .before .before in
-    let at = start .args .at in
-    let s = start .args .s .now in
-    matched-block loop-inv (omega (arith, loop-test-taken, loop-inv .within)) (omega (arith, if1-left, loop-inv .room, length-drop at s, start .pre))
-    (rw (drop-drop loop-k at s) (sym (c .before .block-equals .ensures) ∙ not-false _ (c .if2 .left)))
+    let both = c .before .before in
+    let loop = both .before .before in
+    let a = start loop .args in
+    let k = loop .loop .k in
+    matched-block (loop .loop .inv) (b-more (both .before)) (omega (arith, both .if1 .left, inside loop, length-drop (a .at) (a .s .now)))
+    (rw (drop-drop k (a .at) (a .s .now)) (sym (c .before .block-equals .ensures) ∙ not-false _ (c .if2 .left)))
 
 pub matched-spec : {M : Type 1} → statement M
 matched-spec =

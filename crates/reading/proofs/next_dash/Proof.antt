@@ -1,4 +1,4 @@
--- `reading::next_dash` meets its contract: a search that has come to p. Assumes nothing.
+-- `reading::next_dash` meets its contract. The loop's invariant: no hyphen stands behind an LF from `from` up to p. Assumes nothing.
 use mathlib.Core.Logic.{⊎-elim}
 use Prim.Native.Nat.{_-_}
 use native.Mathlib.Omega.{arith}
@@ -15,47 +15,46 @@ Inv-loop s from p₀ p = Passed (dashed s) s from p
 abbrev μ-loop : tie.MeasureT-loop
 μ-loop s from p₀ p = length s - p
 
--- what `skip_dashless` requires
+-- ---- the blocks that are skipped, wide ones first
 skip-dashless-requires : tie.Need-skip-dashless-requires Inv-loop μ-loop
 skip-dashless-requires c _ = (c .before .pre .0, c .before .pre .1, omega arith)
 
--- what `skip_dashless` requires, behind skip_dashless
 skip-dashless-requires-2 : tie.Need-skip-dashless-requires-2 Inv-loop μ-loop
 skip-dashless-requires-2 c _ =
-    let start = c .before .before in
-    (omega (arith, start .pre .0, c .skip-dashless .ensures .on), c .skip-dashless .ensures .within, omega arith)
+    let skipped = c .skip-dashless .ensures in
+    (omega (arith, c .before .before .pre .0, skipped .on), skipped .within, omega arith)
 
--- the invariant holds at first, behind skip_dashless, skip_dashless2
 loop-holds : tie.Need-loop-holds Inv-loop μ-loop
 loop-holds c = passed-on _ (c .before .skip-dashless .ensures) (c .skip-dashless2 .ensures)
 
--- the difference is not below 0, in the loop behind skip_dashless, skip_dashless2, if1
+-- ---- a hyphen at p: the byte before it
 sub-if2 : tie.Need-sub-if2 Inv-loop μ-loop
 sub-if2 c =
-    let after-loop = c .before .before .before in
-    let loop-inv = after-loop .loop .inv in
-    let start = after-loop .before .before .before .before in
-    omega (arith, loop-inv .on, start .pre .0)
+    let loop = c .before .before .before in
+    omega (arith, loop .loop .inv .on, loop .before .before .before .before .pre .0)
 
--- the index lies inside, in the loop behind skip_dashless, skip_dashless2, if1
 shared-slice-read-if2 : tie.Need-shared-slice-read-if2 Inv-loop μ-loop
 shared-slice-read-if2 c = omega (arith, c .before .before .before .loop-test .taken)
 
--- a way out, in the loop behind skip_dashless, skip_dashless2, if1, if2
+-- it is an LF
 returns : tie.Need-returns Inv-loop μ-loop
 returns c =
-    let if1-taken = c .before .before .if1 .taken in
-    let loop-inv = c .before .before .before .before .before .loop .inv in
-    record { passed = loop-inv; passes = λ h. dash-here _ _ if1-taken (c .if2 .taken) }
+    let hyphen = c .before .before in
+    record { passed = hyphen .before .before .before .loop .inv; passes = λ h. dash-here _ _ (hyphen .if1 .taken) (c .if2 .taken) }
 
--- the invariant holds after a turn, behind skip_dashless, skip_dashless2, if1
+-- ---- on behind p
 loop-again : tie.Need-loop-again Inv-loop μ-loop
 loop-again c =
-    let loop-test-taken = c .before .before .loop-test .taken in
-    let loop-inv = c .before .before .before .loop .inv in
-    passed-one _ loop-inv loop-test-taken (⊎-elim (λ w. dash-no-lf _ _ (w .2 .left)) (λ w. dash-no-hyphen _ _ (w .left)) (c .if1 .came))
+    let turn = c .before .before in
+    passed-one _ (turn .before .loop .inv) (turn .loop-test .taken)
+    (⊎-elim
+    -- the byte before the hyphen is no LF
+    (λ w. dash-no-lf _ _ (w .2 .left))
+    -- no hyphen stands at p
+    (λ w. dash-no-hyphen _ _ (w .left))
+    (c .if1 .came))
 
--- a way out, in the loop behind skip_dashless, skip_dashless2
+-- ---- the end
 returns-2 : tie.Need-returns-2 Inv-loop μ-loop
 returns-2 c = record { passed = c .before .loop .inv; passes = λ h. absurd (omega (arith, c .loop-test .left)) }
 

@@ -1,83 +1,71 @@
 -- `reading::opens` meets its contract, test by test. Assumes nothing.
-use mathlib.Core.Path.{refl}
+use mathlib.Core.Path.{_≡_, refl}
+use mathlib.Core.Bool.{true}
+use mathlib.Core.List.{[]}
 use native.Mathlib.Omega.{arith}
+use lib.ListN.{drop}
 use borrow.Author.Needs.{needs}
+use Rattle.reading.specs.Bytes.{startsWith}
+use Rattle.reading.specs.Reading.{dash}
 use Rattle.reading.proofs.Ends.{hyphens-not-first, hyphens-short, hyphens-not-second, hyphens-both, may-stand-first, may-stand-second, may-stand-later, ends-crlf}
 use Rattle.reading.proofs.opens.Statement.{statement}
 use Rattle.reading.proofs.opens.Tie as tie
 
--- a way out, behind if1
+-- ---- the two hyphens
+
+-- the byte at p is none
 returns : tie.Need-returns
 returns c = rw (hyphens-not-first _ _ (c .before .before .pre) (c .if1 .taken))
 
--- a way out, behind if1, if2
+-- p is the last place
 returns-2 : tie.Need-returns-2
 returns-2 c = rw (hyphens-short _ _ (c .before .before .before .pre) (c .before .if1 .left) (c .if2 .taken))
 
--- a way out, behind if1, if2, if3
+-- the byte behind it is none
 returns-3 : tie.Need-returns-3
 returns-3 c =
-    let if2-left = c .before .before .if2 .left in
-    let after-if1 = c .before .before .before in
-    let if1-left = after-if1 .if1 .left in
-    let start = after-if1 .before .before in
-    rw (hyphens-not-second _ _ (start .pre) if1-left if2-left (c .if3 .taken))
+    let first = c .before .before .before in
+    rw (hyphens-not-second _ _ (first .before .before .pre) (first .if1 .left) (c .before .before .if2 .left) (c .if3 .taken))
 
--- a way out, behind if1, if2, if3, if4
+-- ---- they stand at p: whether it is a place for a delimiter
+
+abbrev start : tie.Else3 → tie.Start
+start c = c .before .before .before .before .before
+
+both : (c : tie.Else3) → startsWith (dash []) (drop (start c .args .p) (start c .args .s .now)) ≡ true
+both c =
+    let first = c .before .before .before in
+    hyphens-both _ _ (start c .pre) (first .if1 .left) (c .before .before .if2 .left) (c .if3 .left)
+
+-- the region's start is one
 returns-4 : tie.Need-returns-4
-returns-4 c =
-    let after-if2 = c .before .before .before in
-    let if2-left = after-if2 .if2 .left in
-    let after-if1 = after-if2 .before in
-    let if1-left = after-if1 .if1 .left in
-    let start = after-if1 .before .before in
-    rw (hyphens-both _ _ (start .pre) if1-left if2-left (c .before .if3 .left), may-stand-first _ _ (c .if4 .taken))
+returns-4 c = rw (both (c .before), may-stand-first _ _ (c .if4 .taken))
 
--- a way out, behind if1, if2, if3, if4, if5
+-- the second place is none
 returns-5 : tie.Need-returns-5
-returns-5 c =
-    let if3-left = c .before .before .if3 .left in
-    let after-if2 = c .before .before .before .before in
-    let if2-left = after-if2 .if2 .left in
-    let after-if1 = after-if2 .before in
-    let if1-left = after-if1 .if1 .left in
-    let pre = after-if1 .before .before .pre in
-    rw (hyphens-both _ _ pre if1-left if2-left if3-left, may-stand-second _ _ pre (c .if5 .taken))
+returns-5 c = rw (both (c .before .before), may-stand-second _ _ (start (c .before .before) .pre) (c .if5 .taken))
 
--- the difference is not below 0, behind if1, if2, if3, if4, if5
+-- ---- any later place: the two bytes before p are compared with CRLF
 sub-result : tie.Need-sub-result
 sub-result c = omega (arith, c .before .if4 .left, c .if5 .left)
 
--- the index lies inside, behind if1, if2, if3, if4, if5
 shared-slice-read-result : tie.Need-shared-slice-read-result
-shared-slice-read-result c = omega (arith, c .before .before .before .before .before .before .before .before .pre)
+shared-slice-read-result c = omega (arith, start (c .before .before .before) .pre)
 
--- the difference is not below 0, behind if1, if2, if3, if4, if5
 sub-result-2 : tie.Need-sub-result-2
 sub-result-2 c = omega (arith, c .before .before .if4 .left)
 
--- the index lies inside, behind if1, if2, if3, if4, if5
 shared-slice-read-result-2 : tie.Need-shared-slice-read-result-2
-shared-slice-read-result-2 c = omega (arith, c .before .before .before .before .before .before .before .before .before .pre)
+shared-slice-read-result-2 c = omega (arith, start (c .before .before .before .before) .pre)
 
--- a way out, behind if1, if2, if3, if4, if5
 returns-6 : tie.Need-returns-6
 returns-6 c =
-    let if5-left = c .before .before .if5 .left in
-    let after-if4 = c .before .before .before in
-    let if4-left = after-if4 .if4 .left in
-    let after-if3 = after-if4 .before in
-    let if3-left = after-if3 .if3 .left in
-    let after-if2 = after-if3 .before .before in
-    let if2-left = after-if2 .if2 .left in
-    let after-if1 = after-if2 .before in
-    let if1-left = after-if1 .if1 .left in
-    let start = after-if1 .before .before in
-    let pre = start .pre in
+    let later = c .before .before .before in
+    let a = start (later .before) .args in
     rw (
-      hyphens-both _ _ pre if1-left if2-left if3-left,
-      may-stand-later _ _ if4-left,
-      ends-crlf (start .args .s .now) (start .args .p) (omega (arith, if4-left, if5-left)) (omega (arith, pre)),
+      both (later .before),
+      may-stand-later _ _ (later .if4 .left),
+      ends-crlf (a .s .now) (a .p) (omega (arith, later .if4 .left, c .before .before .if5 .left)) (omega (arith, start (later .before) .pre)),
     ) refl
 
 pub opens-spec : {M : Type 1} → statement M
