@@ -1,4 +1,4 @@
--- `reading::starts_with_any_case` meets its contract: a comparison in upper case that has come to k. Assumes nothing.
+-- `reading::starts_with_any_case` meets its contract. The loop's invariant: in upper case, the first k bytes of w open l. Assumes nothing.
 use mathlib.Core.Path.{sym, _∙_}
 use Prim.Native.Nat.{_-_}
 use lib.ListN.{length}
@@ -13,35 +13,29 @@ Inv-loop l w k₀ k = Raised w l k
 abbrev μ-loop : tie.MeasureT-loop
 μ-loop l w k₀ k = length w - k
 
--- a way out, in the loop behind if1
+-- l ends before w does
 returns : tie.Need-returns Inv-loop μ-loop
 returns c = raised-short (c .before .before .loop .inv) (c .before .loop-test .taken) (c .if1 .taken)
 
--- a way out, in the loop behind if1, upper, upper2, if2
+-- the bytes at k differ
 returns-2 : tie.Need-returns-2 Inv-loop μ-loop
 returns-2 c =
-    let after-upper = c .before .before .before in
-    let upper-ensures = after-upper .upper .ensures in
-    let after-if1 = after-upper .before .before in
-    let if1-left = after-if1 .if1 .left in
-    let after-loop-test = after-if1 .before in
-    let loop-test-taken = after-loop-test .loop-test .taken in
-    let loop-inv = after-loop-test .before .loop .inv in
-    raised-differs loop-inv loop-test-taken if1-left (λ e. c .if2 .taken (upper-ensures ∙ e ∙ sym (c .before .upper2 .ensures)))
+    let raised = c .before .before .before in
+    let inside = raised .before .before in
+    let turn = inside .before in
+    raised-differs (turn .before .loop .inv) (turn .loop-test .taken) (inside .if1 .left)
+    (λ e. c .if2 .taken (raised .upper .ensures ∙ e ∙ sym (c .before .upper2 .ensures)))
 
--- the invariant holds after a turn, behind if1, upper, upper2, if2
+-- they are equal: on to the next ones
 loop-again : tie.Need-loop-again Inv-loop μ-loop
 loop-again c =
-    let after-upper = c .before .before .before in
-    let upper-ensures = after-upper .upper .ensures in
-    let after-if1 = after-upper .before .before in
-    let if1-left = after-if1 .if1 .left in
-    let after-loop-test = after-if1 .before in
-    let loop-test-taken = after-loop-test .loop-test .taken in
-    let loop-inv = after-loop-test .before .loop .inv in
-    raised-on loop-inv loop-test-taken if1-left (sym upper-ensures ∙ c .if2 .left ∙ c .before .upper2 .ensures)
+    let raised = c .before .before .before in
+    let inside = raised .before .before in
+    let turn = inside .before in
+    raised-on (turn .before .loop .inv) (turn .loop-test .taken) (inside .if1 .left)
+    (sym (raised .upper .ensures) ∙ c .if2 .left ∙ c .before .upper2 .ensures)
 
--- a way out, in the loop
+-- all of w has been compared
 returns-3 : tie.Need-returns-3 Inv-loop μ-loop
 returns-3 c = raised-all (c .before .loop .inv) (c .loop-test .left)
 
