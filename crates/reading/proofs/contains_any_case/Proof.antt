@@ -1,6 +1,7 @@
--- `reading::contains_any_case` meets its contract: a search, in upper case, that has come to p. Assumes nothing.
-use mathlib.Core.Path.{sym, ap, _∙_}
-use Prim.Native.Nat.{_-_}
+-- `reading::contains_any_case` meets its contract. The loop's invariant: in upper case, the first place from p on where w stands is the first of all.
+-- Assumes nothing.
+use mathlib.Core.Path.{_≡_, sym, ap, _∙_}
+use Prim.Native.Nat.{_-_, _<_}
 use lib.ListN.{length}
 use borrow.Author.Needs.{needs}
 use Rattle.reading.specs.Bytes.{raised, stands, found, contains}
@@ -15,29 +16,34 @@ Inv-loop l w p₀ p = Sought (stands (raised w) (raised l)) (raised l) p
 abbrev μ-loop : tie.MeasureT-loop
 μ-loop l w p₀ p = length l - p
 
--- a way out, in the loop behind starts_with_any_case, if1
-returns : tie.Need-returns Inv-loop μ-loop
-unfolding stands contains found
-returns c =
-    let after-loop-test = c .before .before .before in
-    let loop-test-taken = after-loop-test .loop-test .taken in
-    let after-loop = after-loop-test .before in
-    let loop-inv = after-loop .loop .inv in
-    let start = after-loop .before .before .before in
-    ap found (sought-here loop-inv (rw raised-length loop-test-taken) (raised-rest _ (start .args .l .now) _ ∙ sym (c .before .starts-with-any-case .ensures) ∙ c .if1 .taken))
-
--- the invariant holds after a turn, behind starts_with_any_case, if1
-loop-again : tie.Need-loop-again Inv-loop μ-loop
+-- in a turn, whether w stands at p is what `starts_with_any_case` answers for the rest of l
+stands-as : (c : tie.After-starts-with-any-case Inv-loop μ-loop) →
+    let loop = c .before .before .before in
+    let a = loop .before .before .before .args in
+    stands (raised (a .w .now)) (raised (a .l .now)) (loop .loop .p) ≡ c .starts-with-any-case .result
 unfolding stands
-loop-again c =
-    let after-loop-test = c .before .before .before in
-    let loop-test-taken = after-loop-test .loop-test .taken in
-    let after-loop = after-loop-test .before in
-    let loop-inv = after-loop .loop .inv in
-    let start = after-loop .before .before .before in
-    sought-on loop-inv (rw raised-length loop-test-taken) (raised-rest _ (start .args .l .now) _ ∙ sym (c .before .starts-with-any-case .ensures) ∙ c .if1 .left)
+stands-as c =
+    let a = c .before .before .before .before .before .before .args in
+    raised-rest _ (a .l .now) _ ∙ sym (c .starts-with-any-case .ensures)
 
--- a way out, in the loop
+-- p lies inside
+inside : (c : tie.In-loop Inv-loop μ-loop) → c .before .loop .p < length (raised (c .before .before .before .before .args .l .now))
+inside c = rw raised-length (c .loop-test .taken)
+
+-- w stands at p
+returns : tie.Need-returns Inv-loop μ-loop
+unfolding contains found
+returns c =
+    let turn = c .before .before .before in
+    ap found (sought-here (turn .before .loop .inv) (inside turn) (stands-as (c .before) ∙ c .if1 .taken))
+
+-- it does not: on to the next place
+loop-again : tie.Need-loop-again Inv-loop μ-loop
+loop-again c =
+    let turn = c .before .before .before in
+    sought-on (turn .before .loop .inv) (inside turn) (stands-as (c .before) ∙ c .if1 .left)
+
+-- l ends
 returns-2 : tie.Need-returns-2 Inv-loop μ-loop
 unfolding contains found
 returns-2 c = ap found (sought-in-vain (c .before .loop .inv) (rw raised-length (c .loop-test .left)))

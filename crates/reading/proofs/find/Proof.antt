@@ -1,5 +1,5 @@
--- `reading::find` meets its contract: a search that has come to p. Assumes nothing.
-use mathlib.Core.Path.{sym, ap, _∙_}
+-- `reading::find` meets its contract. The loop's invariant: the first place from p on where w stands is the first of all. Assumes nothing.
+use mathlib.Core.Path.{_≡_, sym, ap, _∙_}
 use Prim.Native.Nat.{_-_}
 use lib.ListN.{length}
 use borrow.Author.Needs.{needs}
@@ -15,29 +15,29 @@ Inv-loop l w p₀ p = Sought (stands w l) l p
 abbrev μ-loop : tie.MeasureT-loop
 μ-loop l w p₀ p = length l - p
 
--- a way out, in the loop behind starts_with, if1
+-- in a turn, whether w stands at p is what `starts_with` answers for the rest of l
+stands-as : (c : tie.After-starts-with Inv-loop μ-loop) →
+    let loop = c .before .before .before in
+    let a = loop .before .before .before .args in
+    stands (a .w .now) (a .l .now) (loop .loop .p) ≡ c .starts-with .result
+unfolding stands
+stands-as c =
+    let a = c .before .before .before .before .before .before .args in
+    ap (startsWith _) (sym (rest-is (a .l .now) _)) ∙ sym (c .starts-with .ensures)
+
+-- w stands at p
 returns : tie.Need-returns Inv-loop μ-loop
-unfolding stands
 returns c =
-    let after-loop-test = c .before .before .before in
-    let loop-test-taken = after-loop-test .loop-test .taken in
-    let after-loop = after-loop-test .before in
-    let loop-inv = after-loop .loop .inv in
-    let start = after-loop .before .before .before in
-    sought-here loop-inv loop-test-taken (ap (startsWith _) (sym (rest-is (start .args .l .now) _)) ∙ sym (c .before .starts-with .ensures) ∙ c .if1 .taken)
+    let turn = c .before .before .before in
+    sought-here (turn .before .loop .inv) (turn .loop-test .taken) (stands-as (c .before) ∙ c .if1 .taken)
 
--- the invariant holds after a turn, behind starts_with, if1
+-- it does not: on to the next place
 loop-again : tie.Need-loop-again Inv-loop μ-loop
-unfolding stands
 loop-again c =
-    let after-loop-test = c .before .before .before in
-    let loop-test-taken = after-loop-test .loop-test .taken in
-    let after-loop = after-loop-test .before in
-    let loop-inv = after-loop .loop .inv in
-    let start = after-loop .before .before .before in
-    sought-on loop-inv loop-test-taken (ap (startsWith _) (sym (rest-is (start .args .l .now) _)) ∙ sym (c .before .starts-with .ensures) ∙ c .if1 .left)
+    let turn = c .before .before .before in
+    sought-on (turn .before .loop .inv) (turn .loop-test .taken) (stands-as (c .before) ∙ c .if1 .left)
 
--- a way out, in the loop
+-- l ends
 returns-2 : tie.Need-returns-2 Inv-loop μ-loop
 returns-2 c = sought-in-vain (c .before .loop .inv) (c .loop-test .left)
 

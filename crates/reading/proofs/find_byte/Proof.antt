@@ -1,4 +1,4 @@
--- `reading::find_byte` meets its contract: a search that has come to p. Assumes nothing.
+-- `reading::find_byte` meets its contract. The loop's invariant: the first place from p on that holds the byte is the first of all. Assumes nothing.
 use Prim.Native.Nat.{_-_}
 use lib.ListN.{length}
 use borrow.Author.Needs.{needs}
@@ -15,27 +15,25 @@ Inv-loop s b p₀ p = Sought (holds b s) s p
 abbrev μ-loop : tie.MeasureT-loop
 μ-loop s b p₀ p = length s - p
 
--- the invariant holds at first, behind skip_blocks
+-- the blocks that were skipped do not hold it
 loop-holds : tie.Need-loop-holds Inv-loop μ-loop
 loop-holds c = sought-passed _ (sought-none-yet _ _) (c .skip-blocks .ensures)
 
--- a way out, in the loop behind skip_blocks, if1
+-- p holds the byte
 returns : tie.Need-returns Inv-loop μ-loop
 unfolding holds
 returns c =
-    let loop-test-taken = c .before .before .loop-test .taken in
-    let loop-inv = c .before .before .before .loop .inv in
-    sought-here loop-inv loop-test-taken (eq-eqb _ _ (c .if1 .taken))
+    let turn = c .before .before in
+    sought-here (turn .before .loop .inv) (turn .loop-test .taken) (eq-eqb _ _ (c .if1 .taken))
 
--- the invariant holds after a turn, behind skip_blocks, if1
+-- it does not: on to the next place
 loop-again : tie.Need-loop-again Inv-loop μ-loop
 unfolding holds
 loop-again c =
-    let loop-test-taken = c .before .before .loop-test .taken in
-    let loop-inv = c .before .before .before .loop .inv in
-    sought-on loop-inv loop-test-taken (ne-eqb _ _ (c .if1 .left))
+    let turn = c .before .before in
+    sought-on (turn .before .loop .inv) (turn .loop-test .taken) (ne-eqb _ _ (c .if1 .left))
 
--- a way out, in the loop behind skip_blocks
+-- the region ends
 returns-2 : tie.Need-returns-2 Inv-loop μ-loop
 returns-2 c = sought-in-vain (c .before .loop .inv) (c .loop-test .left)
 

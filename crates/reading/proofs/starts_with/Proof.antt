@@ -1,4 +1,4 @@
--- `reading::starts_with` meets its contract: a comparison that has come to k. Assumes nothing.
+-- `reading::starts_with` meets its contract. The loop's invariant: the first k bytes of w open l. Assumes nothing.
 use Prim.Native.Nat.{_-_}
 use lib.ListN.{length}
 use borrow.Author.Needs.{needs}
@@ -12,31 +12,23 @@ Inv-loop l w k₀ k = Compared w l k
 abbrev μ-loop : tie.MeasureT-loop
 μ-loop l w k₀ k = length w - k
 
--- a way out, in the loop behind if1
+-- l ends before w does
 returns : tie.Need-returns Inv-loop μ-loop
 returns c = compared-short (c .before .before .loop .inv) (c .before .loop-test .taken) (c .if1 .taken)
 
--- a way out, in the loop behind if1, if2
+-- the bytes at k differ
 returns-2 : tie.Need-returns-2 Inv-loop μ-loop
 returns-2 c =
-    let after-if1 = c .before .before .before in
-    let if1-left = after-if1 .if1 .left in
-    let after-loop-test = after-if1 .before in
-    let loop-test-taken = after-loop-test .loop-test .taken in
-    let loop-inv = after-loop-test .before .loop .inv in
-    compared-differs loop-inv loop-test-taken if1-left (c .if2 .taken)
+    let inside = c .before .before .before in
+    compared-differs (inside .before .before .loop .inv) (inside .before .loop-test .taken) (inside .if1 .left) (c .if2 .taken)
 
--- the invariant holds after a turn, behind if1, if2
+-- they are equal: on to the next ones
 loop-again : tie.Need-loop-again Inv-loop μ-loop
 loop-again c =
-    let after-if1 = c .before .before .before in
-    let if1-left = after-if1 .if1 .left in
-    let after-loop-test = after-if1 .before in
-    let loop-test-taken = after-loop-test .loop-test .taken in
-    let loop-inv = after-loop-test .before .loop .inv in
-    compared-on loop-inv loop-test-taken if1-left (c .if2 .left)
+    let inside = c .before .before .before in
+    compared-on (inside .before .before .loop .inv) (inside .before .loop-test .taken) (inside .if1 .left) (c .if2 .left)
 
--- a way out, in the loop
+-- all of w has been compared
 returns-3 : tie.Need-returns-3 Inv-loop μ-loop
 returns-3 c = compared-all (c .before .loop .inv) (c .loop-test .left)
 
