@@ -1,4 +1,4 @@
--- `reading::block_equals` meets its contract: the first i bytes have been compared. Assumes nothing.
+-- `reading::block_equals` meets its contract. The loop's invariant: `same` tells whether the first i bytes are equal. Assumes nothing.
 use mathlib.Core.Path.{_≡_, refl, sym}
 use Prim.Native.Nat.{_-_, _≤_}
 use native.Mathlib.Omega.{arith}
@@ -15,23 +15,22 @@ Inv-loop s p b k same₀ i₀ same i = (i ≤ 16) × (same ≡ startsWith (take 
 abbrev μ-loop : tie.MeasureT-loop
 μ-loop s p b k same₀ i₀ same i = 16 - i
 
--- the invariant holds at first
 loop-holds : tie.Need-loop-holds Inv-loop μ-loop
 unfolding startsWith
 loop-holds c = (omega arith, refl)
 
--- the invariant holds after a turn
 loop-again : tie.Need-loop-again Inv-loop μ-loop
 loop-again c =
-    let loop-test-taken = c .before .before .loop-test .taken in
-    let after-loop = c .before .before .before in
-    let loop-inv = after-loop .loop .inv in
-    let pre = after-loop .before .pre in
-    (omega arith, rw (loop-inv .1) (sym (block-more _ _ _ _ _ (pre .0) (pre .1) loop-test-taken)))
+    let turn = c .before .before in
+    let loop = turn .before in
+    let pre = loop .before .pre in
+    (omega arith, rw (loop .loop .inv .1) (sym (block-more _ _ _ _ _ (pre .0) (pre .1) (turn .loop-test .taken))))
 
--- a way out, in the loop
 returns : tie.Need-returns Inv-loop μ-loop
-returns c = let e : c .before .loop .i ≡ 16 = omega (arith, c .before .loop .inv .0, c .loop-test .left) in rw e at (c .before .loop .inv .1)
+returns c =
+    let loop = c .before in
+    let all : loop .loop .i ≡ 16 = omega (arith, loop .loop .inv .0, c .loop-test .left) in
+    rw all at (loop .loop .inv .1)
 
 pub block-equals-spec : {M : Type 1} → statement M
 block-equals-spec =

@@ -1,4 +1,4 @@
--- `reading::block_holds` meets its contract: of the first i places it is known whether one passes. Assumes nothing.
+-- `reading::block_holds` meets its contract. The loop's invariant: `seen` tells whether one of the first i places holds the byte. Assumes nothing.
 use mathlib.Core.Path.{_≡_, refl, sym}
 use Prim.Native.Nat.{_-_, _≤_}
 use native.Mathlib.Omega.{arith}
@@ -14,23 +14,22 @@ Inv-loop s p b seen₀ i₀ seen i = (i ≤ 16) × (seen ≡ found (first (holds
 abbrev μ-loop : tie.MeasureT-loop
 μ-loop s p b seen₀ i₀ seen i = 16 - i
 
--- the invariant holds at first
 loop-holds : tie.Need-loop-holds Inv-loop μ-loop
 unfolding found first
 loop-holds c = (omega arith, refl)
 
--- the invariant holds after a turn
 loop-again : tie.Need-loop-again Inv-loop μ-loop
 unfolding holds
 loop-again c =
-    let loop-inv = c .before .before .loop .inv in
-    let loop-i = c .before .before .loop .i in
-    let start = c .before .before .before in
-    (omega arith, rw (loop-inv .1) (sym (found-more (holds (start .args .b) (start .args .s .now)) (start .args .p) loop-i)))
+    let loop = c .before .before in
+    let a = loop .before .args in
+    (omega arith, rw (loop .loop .inv .1) (sym (found-more (holds (a .b) (a .s .now)) (a .p) (loop .loop .i))))
 
--- a way out, in the loop
 returns : tie.Need-returns Inv-loop μ-loop
-returns c = let e : c .before .loop .i ≡ 16 = omega (arith, c .before .loop .inv .0, c .loop-test .left) in rw e at (c .before .loop .inv .1)
+returns c =
+    let loop = c .before in
+    let all : loop .loop .i ≡ 16 = omega (arith, loop .loop .inv .0, c .loop-test .left) in
+    rw all at (loop .loop .inv .1)
 
 pub block-holds-spec : {M : Type 1} → statement M
 block-holds-spec =

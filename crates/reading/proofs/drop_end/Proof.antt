@@ -1,18 +1,18 @@
--- `reading::drop_end` meets its contract. Assumes nothing.
+-- `reading::drop_end` meets its contract, by the last of the n bytes. Assumes nothing.
 use native.Mathlib.Omega.{arith}
 use Rattle.reading.proofs.Ends.{drop-end-none, drop-end-here, drop-end-not}
 use Rattle.reading.proofs.drop_end.Statement.{statement}
 use Rattle.reading.proofs.drop_end.Tie as tie
 
--- a way out, behind if1
+-- there is none
 returns : tie.Need-returns
 returns c = drop-end-none _ _ _ (c .if1 .taken)
 
--- a way out, behind if1, if2
+-- it is b
 returns-2 : tie.Need-returns-2
 returns-2 c = drop-end-here _ _ _ (omega arith) (c .before .before .before .pre) (c .if2 .taken)
 
--- a way out, behind if1, if2
+-- it is another
 returns-3 : tie.Need-returns-3
 returns-3 c = drop-end-not _ _ _ (omega arith) (c .before .before .before .pre) (c .if2 .left)
 

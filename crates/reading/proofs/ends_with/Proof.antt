@@ -7,7 +7,11 @@ use Rattle.reading.proofs.Words.{rest-is}
 use Rattle.reading.proofs.ends_with.Statement.{statement}
 use Rattle.reading.proofs.ends_with.Tie as tie
 
--- a way out, behind if1, equals
+-- l is shorter than w
+returns : tie.Need-returns
+returns c = ends-short _ _ (c .if1 .taken)
+
+-- it is not: its last bytes are compared
 returns-2 : tie.Need-returns-2
 unfolding endsWith
 returns-2 c =
@@ -18,7 +22,7 @@ pub ends-with-spec : {M : Type 1} → statement M
 ends-with-spec =
     tie.close
     (tie.spec
-    (λ c. ends-short _ _ (c .if1 .taken))
+    returns
     (λ c. search needs)
     (λ c. search needs)
     (λ c. search needs)

@@ -1,23 +1,27 @@
--- `reading::line_end` meets its contract. Assumes nothing.
-use mathlib.Core.Path.{sym, _∙_}
+-- `reading::line_end` meets its contract, by where the first LF stands. Assumes nothing.
+use mathlib.Core.Path.{_≡_, sym, _∙_}
 use native.Mathlib.Omega.{arith}
 use borrow.Author.Needs.{needs}
+use Rattle.reading.specs.Bytes.{firstPlace, holds}
+use Rattle.reading.specs.declared.Place.the-variants.{At}
 use Rattle.reading.proofs.Ends.{line-here, line-nowhere}
 use Rattle.reading.proofs.Places.{first-inside}
 use Rattle.reading.proofs.line_end.Statement.{statement}
 use Rattle.reading.proofs.line_end.Tie as tie
 
--- the sum does not wrap, behind find_byte At(p)
+-- at p
+lf-at : (c : tie.After-p) →
+    let s = c .before .before .before .before .args .s .now in
+    firstPlace (holds 10 s) s ≡ At (c .p .given .0 .0)
+lf-at c = sym (c .before .before .find-byte .ensures) ∙ c .p .given .1
+
 add-t5 : tie.Need-add-t5
-add-t5 c =
-    let find-byte-ensures = c .before .before .before .find-byte .ensures in
-    omega (arith, first-inside _ _ _ (sym find-byte-ensures ∙ c .before .p .given .1))
+add-t5 c = omega (arith, first-inside _ _ _ (lf-at (c .before)))
 
--- a way out, behind find_byte At(p)
 returns : tie.Need-returns
-returns c = line-here _ (sym (c .before .before .before .find-byte .ensures) ∙ c .before .p .given .1)
+returns c = line-here _ (lf-at (c .before))
 
--- a way out, behind find_byte Nowhere
+-- nowhere
 returns-2 : tie.Need-returns-2
 returns-2 c = line-nowhere _ (sym (c .before .before .find-byte .ensures) ∙ c .enum-told .given .1)
 

@@ -40,6 +40,10 @@ sub-if1 c = start (c .before) .pre
 sub-if1-2 : tie.Need-sub-if1-2 Inv-loop μ-loop
 sub-if1-2 c = omega (arith, inside (c .before))
 
+-- it has not
+returns : tie.Need-returns Inv-loop μ-loop
+returns c = c .before .before .loop .inv
+
 -- ---- it has: the two blocks are compared
 add-block-equals : tie.Need-add-block-equals Inv-loop μ-loop
 add-block-equals c = omega (arith, inside (c .before .before))
@@ -77,7 +81,7 @@ matched-spec =
     (λ c. c .loop .inv .within)
     sub-if1
     sub-if1-2
-    (λ c. c .before .before .loop .inv)
+    returns
     add-block-equals
     block-equals-requires
     returns-2

@@ -15,15 +15,15 @@ Inv-loop s b p₀ p = Passed (holds b s) s 0 p
 abbrev μ-loop : tie.MeasureT-loop
 μ-loop s b p₀ p = length s - p
 
--- in a turn, a whole block is left at p
-block : (c : tie.In-loop Inv-loop μ-loop) → c .before .loop .p + 16 ≤ length (c .before .before .before .args .s .now)
-block c = omega (arith, c .before .loop .inv .within, c .loop-test .taken)
-
 loop-holds : tie.Need-loop-holds Inv-loop μ-loop
 loop-holds c = passed-none-yet _ (omega arith)
 
 sub-loop : tie.Need-sub-loop Inv-loop μ-loop
 sub-loop c = omega (arith, c .loop .inv .within)
+
+-- ---- a turn: a whole block is left at p
+block : (c : tie.In-loop Inv-loop μ-loop) → c .before .loop .p + 16 ≤ length (c .before .before .before .args .s .now)
+block c = omega (arith, c .before .loop .inv .within, c .loop-test .taken)
 
 -- the byte stands in it
 returns : tie.Need-returns Inv-loop μ-loop

@@ -17,22 +17,22 @@ abbrev μ-loop : tie.MeasureT-loop
 abbrev start : tie.At-loop Inv-loop μ-loop → tie.Start Inv-loop μ-loop
 start c = c .before .before
 
--- in a turn, a whole block is left at p
-block : (c : tie.In-loop Inv-loop μ-loop) →
-    let a = start (c .before) .args in
-    c .before .loop .p + a .n ≤ length (a .s .now)
-block c = omega (arith, c .before .loop .inv .within, c .loop-test .taken)
-
 loop-holds : tie.Need-loop-holds Inv-loop μ-loop
 loop-holds c = passed-none-yet _ (omega arith)
 
 sub-loop : tie.Need-sub-loop Inv-loop μ-loop
 sub-loop c = omega (arith, c .loop .inv .within)
 
+-- ---- a turn: a whole block is left at p
+block : (c : tie.In-loop Inv-loop μ-loop) →
+    let a = start (c .before) .args in
+    c .before .loop .p + a .n ≤ length (a .s .now)
+block c = omega (arith, c .before .loop .inv .within, c .loop-test .taken)
+
 block-dashed-requires : tie.Need-block-dashed-requires Inv-loop μ-loop
 block-dashed-requires c _ = (omega (arith, start (c .before) .pre .0, c .before .loop .inv .on), block c)
 
--- one stands in it
+-- a hyphen behind an LF stands in it
 returns : tie.Need-returns Inv-loop μ-loop
 returns c = c .before .before .before .loop .inv
 
