@@ -1,67 +1,71 @@
 -- `direction::greets` meets its contract, word by word. Assumes nothing.
-use mathlib.Core.Path.{sym, _∙_}
+use mathlib.Core.Path.{_≡_, sym, _∙_}
+use mathlib.Core.Bool.{false}
+use mathlib.Core.List.{List}
+use Prim.Native.Nat.{ℕ}
 use borrow.Author.Needs.{needs}
+use Rattle.reading.specs.Bytes.{startsWith}
+use Rattle.reading.specs.Text.{text}
 use Rattle.direction.specs.Direction.{greets}
 use Rattle.direction.proofs.greets.Statement.{statement}
 use Rattle.direction.proofs.greets.Tie as tie
 
--- a way out, behind Smtp, starts_with, if1
+-- ---- SMTP: the words that do not stand, where the next is asked
+
+abbrev smtp : tie.Else1 → tie.After-enum-told
+smtp c = c .before .before .before
+
+abbrev payload : tie.Else1 → List ℕ
+payload c = smtp c .before .before .before .args .payload .now
+
+no-220 : (c : tie.Else1) → startsWith (text "220 ") (payload c) ≡ false
+no-220 c = sym (c .before .starts-with .ensures) ∙ c .if1 .left
+
+no-220-dash : (c : tie.Else2) → startsWith (text "220-") (payload (c .before .before .before)) ≡ false
+no-220-dash c = sym (c .before .starts-with2 .ensures) ∙ c .if2 .left
+
+no-421 : (c : tie.Else3) → startsWith (text "421 ") (payload (c .before .before .before .before .before .before)) ≡ false
+no-421 c = sym (c .before .starts-with3 .ensures) ∙ c .if3 .left
+
+-- ---- SMTP: the words
+
+-- `220 ` stands
 returns : tie.Need-returns
 unfolding greets
 returns c =
-    let enum-told-is = c .before .before .before .enum-told .given .1 in
-    rw (enum-told-is, sym (c .before .starts-with .ensures) ∙ c .if1 .taken) (c .if1 .taken)
+    let first = c .before in
+    rw (first .before .before .enum-told .given .1, sym (first .starts-with .ensures) ∙ c .if1 .taken) (c .if1 .taken)
 
--- a way out, behind Smtp, starts_with, if1, starts_with2, if2
+-- `220-` does
 returns-2 : tie.Need-returns-2
 unfolding greets
 returns-2 c =
-    let after-if1 = c .before .before .before in
-    let if1-left = after-if1 .if1 .left in
-    let after-starts-with = after-if1 .before in
-    let starts-with-ensures = after-starts-with .starts-with .ensures in
-    let enum-told-is = after-starts-with .before .before .enum-told .given .1 in
-    rw (enum-told-is, sym starts-with-ensures ∙ if1-left, sym (c .before .starts-with2 .ensures) ∙ c .if2 .taken) (c .if2 .taken)
+    let first = c .before .before .before in
+    rw (smtp first .enum-told .given .1, no-220 first, sym (c .before .starts-with2 .ensures) ∙ c .if2 .taken) (c .if2 .taken)
 
--- a way out, behind Smtp, starts_with, if1, starts_with2, if2, starts_with3, if3
+-- `421 ` does
 returns-3 : tie.Need-returns-3
 unfolding greets
 returns-3 c =
-    let after-if2 = c .before .before .before in
-    let if2-left = after-if2 .if2 .left in
-    let after-starts-with2 = after-if2 .before in
-    let starts-with2-ensures = after-starts-with2 .starts-with2 .ensures in
-    let after-if1 = after-starts-with2 .before .before in
-    let if1-left = after-if1 .if1 .left in
-    let after-starts-with = after-if1 .before in
-    let starts-with-ensures = after-starts-with .starts-with .ensures in
-    let enum-told-is = after-starts-with .before .before .enum-told .given .1 in
-    rw (enum-told-is, sym starts-with-ensures ∙ if1-left, sym starts-with2-ensures ∙ if2-left, sym (c .before .starts-with3 .ensures) ∙ c .if3 .taken) (c .if3 .taken)
+    let second = c .before .before .before in
+    let first = second .before .before .before in
+    rw (smtp first .enum-told .given .1, no-220 first, no-220-dash second, sym (c .before .starts-with3 .ensures) ∙ c .if3 .taken) (c .if3 .taken)
 
--- a way out, behind Smtp, starts_with, if1, starts_with2, if2, starts_with3, if3, starts_with4
+-- none of them: `421-` decides
 returns-4 : tie.Need-returns-4
 unfolding greets
 returns-4 c =
-    let if3-left = c .before .before .if3 .left in
-    let after-starts-with3 = c .before .before .before in
-    let starts-with3-ensures = after-starts-with3 .starts-with3 .ensures in
-    let after-if2 = after-starts-with3 .before .before in
-    let if2-left = after-if2 .if2 .left in
-    let after-starts-with2 = after-if2 .before in
-    let starts-with2-ensures = after-starts-with2 .starts-with2 .ensures in
-    let after-if1 = after-starts-with2 .before .before in
-    let if1-left = after-if1 .if1 .left in
-    let after-starts-with = after-if1 .before in
-    let starts-with-ensures = after-starts-with .starts-with .ensures in
-    let enum-told-is = after-starts-with .before .before .enum-told .given .1 in
-    rw (enum-told-is, sym starts-with-ensures ∙ if1-left, sym starts-with2-ensures ∙ if2-left, sym starts-with3-ensures ∙ if3-left) (c .starts-with4 .ensures)
+    let third = c .before .before in
+    let second = third .before .before .before in
+    let first = second .before .before .before in
+    rw (smtp first .enum-told .given .1, no-220 first, no-220-dash second, no-421 third) (c .starts-with4 .ensures)
 
--- a way out, behind Imap, starts_with5
+-- ---- POP3
 returns-5 : tie.Need-returns-5
 unfolding greets
 returns-5 c = rw (c .before .before .enum-told2 .given .1) (c .starts-with5 .ensures)
 
--- a way out, behind starts_with6
+-- ---- IMAP
 returns-6 : tie.Need-returns-6
 unfolding greets
 returns-6 c = rw (c .before .before .enum-told3 .given .1) (c .starts-with6 .ensures)
