@@ -1,51 +1,61 @@
--- `direction::clt_cmd` meets its contract. Assumes nothing.
-use mathlib.Core.Path.{sym, _∙_}
+-- `direction::clt_cmd` meets its contract, by the first byte and the first space among ten. Assumes nothing.
+use mathlib.Core.Path.{_≡_, sym, _∙_}
+use mathlib.Core.Bool.{true, _||_}
 use native.Mathlib.Omega.{arith}
+use lib.ListN.{length, take, getD}
 use lib.Seq.{length-take-le}
 use borrow.Author.Needs.{needs}
 use borrow.Author.Tests.{not-true, not-false}
+use Rattle.classes.specs.Classes.{isLetter, isDigit}
+use Rattle.reading.specs.Bytes.{firstPlace, holds}
+use Rattle.reading.specs.declared.Place.the-variants.{At}
 use Rattle.reading.proofs.Places.{first-inside}
 use Rattle.direction.proofs.Tags.{command-not, command-here, command-nowhere}
 use Rattle.direction.proofs.clt_cmd.Statement.{statement}
 use Rattle.direction.proofs.clt_cmd.Tie as tie
 
--- a way out, behind is_alphanumeric, if1
+-- the first byte opens no tag
 returns : tie.Need-returns
 returns c = command-not _ (sym (c .before .is-alphanumeric .ensures) ∙ not-true _ (c .if1 .taken))
 
--- the index lies inside, behind is_alphanumeric, if1
-slice-aggregate-find-byte : tie.Need-slice-aggregate-find-byte
-slice-aggregate-find-byte c =
-    let start = c .before .before .before .before .before in
-    sym (length-take-le _ (start .args .input .now) (start .pre))
+-- ---- it is a letter or a digit: the first ten bytes
 
--- what `command_at` requires, behind is_alphanumeric, if1, find_byte At(p)
+abbrev start : tie.Else1 → tie.Start
+start c = c .before .before .before .before
+
+ten : (c : tie.Else1) → length (take 10 (start c .args .input .now)) ≡ 10
+ten c = length-take-le _ (start c .args .input .now) (start c .pre)
+
+opens : (c : tie.Else1) →
+    let b = getD (start c .args .input .now) 0 0 in
+    (isLetter b || isDigit b) ≡ true
+opens c = sym (c .before .is-alphanumeric .ensures) ∙ not-false _ (c .if1 .left)
+
+slice-aggregate-find-byte : tie.Need-slice-aggregate-find-byte
+slice-aggregate-find-byte c = sym (ten (c .before))
+
+-- ---- a space stands at p
+space-at : (c : tie.After-p) →
+    let l = take 10 (start (c .before .before .before .before) .args .input .now) in
+    firstPlace (holds 32 l) l ≡ At (c .p .given .0 .0)
+space-at c = sym (c .before .before .find-byte .ensures) ∙ c .p .given .1
+
 command-at-requires : tie.Need-command-at-requires
 command-at-requires c _ =
-    let after-find-byte = c .before .before .before in
-    let find-byte-ensures = after-find-byte .find-byte .ensures in
-    let start = after-find-byte .before .before .before .before .before .before in
-    omega (arith, length-take-le _ (start .args .input .now) (start .pre), first-inside _ _ _ (sym find-byte-ensures ∙ c .before .p .given .1))
+    let space = c .before in
+    let first = space .before .before .before .before in
+    omega (arith, ten first, first-inside _ _ _ (space-at space), start first .pre)
 
--- a way out, behind is_alphanumeric, if1, find_byte At(p), command_at
 returns-2 : tie.Need-returns-2
 returns-2 c =
-    let p-is = c .before .before .p .given .1 in
-    let after-find-byte = c .before .before .before .before in
-    let find-byte-ensures = after-find-byte .find-byte .ensures in
-    let after-if1 = after-find-byte .before .before in
-    let if1-left = after-if1 .if1 .left in
-    let is-alphanumeric-ensures = after-if1 .before .is-alphanumeric .ensures in
-    c .command-at .ensures ∙ command-here _ (sym is-alphanumeric-ensures ∙ not-false _ if1-left) (sym find-byte-ensures ∙ p-is)
+    let space = c .before .before in
+    c .command-at .ensures ∙ command-here _ (opens (space .before .before .before .before)) (space-at space)
 
--- a way out, behind is_alphanumeric, if1, find_byte Nowhere
+-- ---- none does
 returns-3 : tie.Need-returns-3
 returns-3 c =
-    let find-byte-ensures = c .before .before .find-byte .ensures in
-    let after-if1 = c .before .before .before .before in
-    let if1-left = after-if1 .if1 .left in
-    let is-alphanumeric-ensures = after-if1 .before .is-alphanumeric .ensures in
-    command-nowhere _ (sym is-alphanumeric-ensures ∙ not-false _ if1-left) (sym find-byte-ensures ∙ c .enum-told .given .1)
+    let sought = c .before .before in
+    command-nowhere _ (opens (sought .before .before)) (sym (sought .find-byte .ensures) ∙ c .enum-told .given .1)
 
 pub clt-cmd-spec : {M : Type 1} → statement M
 clt-cmd-spec =
