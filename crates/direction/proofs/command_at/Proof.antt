@@ -1,34 +1,38 @@
--- `direction::command_at` meets its contract. Assumes nothing.
-use mathlib.Core.Path.{sym, _∙_}
+-- `direction::command_at` meets its contract, by the tag before the space and the byte behind it. Assumes nothing.
+use mathlib.Core.Path.{_≡_, sym, _∙_}
+use mathlib.Core.Bool.{true}
 use native.Mathlib.Nat.{le-of-lt}
+use lib.ListN.{take}
 use lib.Seq.{length-take-le}
 use borrow.Author.Needs.{needs}
 use borrow.Author.Tests.{not-true, not-false}
+use Rattle.direction.specs.Direction.{isTag}
 use Rattle.direction.proofs.Tags.{tagless, bare-tag, tag-and}
 use Rattle.direction.proofs.command_at.Statement.{statement}
 use Rattle.direction.proofs.command_at.Tie as tie
 
--- the index lies inside
 slice-aggregate-is-tag : tie.Need-slice-aggregate-is-tag
-slice-aggregate-is-tag c = sym (length-take-le _ (c .before .before .args .input .now) (le-of-lt (c .before .before .pre)))
+slice-aggregate-is-tag c =
+    let start = c .before .before in
+    sym (length-take-le _ (start .args .input .now) (le-of-lt (start .pre)))
 
--- a way out, behind is_tag, if1
+-- no tag stands before it
 returns : tie.Need-returns
 returns c = tagless _ _ (sym (c .before .is-tag .ensures) ∙ not-true _ (c .if1 .taken))
 
--- a way out, behind is_tag, if1, if2
-returns-2 : tie.Need-returns-2
-returns-2 c =
-    let is-tag-ensures = c .before .before .is-tag .ensures in
-    bare-tag _ _ (sym is-tag-ensures ∙ not-false _ (c .before .if1 .left)) (c .if2 .taken)
+-- ---- a tag does
+tag : (c : tie.Else1) →
+    let a = c .before .before .before .before .args in
+    isTag (take (a .p) (a .input .now)) ≡ true
+tag c = sym (c .before .is-tag .ensures) ∙ not-false _ (c .if1 .left)
 
--- a way out, behind is_tag, if1, if2, is_upper
+-- no byte is behind the space
+returns-2 : tie.Need-returns-2
+returns-2 c = bare-tag _ _ (tag (c .before)) (c .if2 .taken)
+
+-- one is
 returns-3 : tie.Need-returns-3
-returns-3 c =
-    let after-if1 = c .before .before .before in
-    let if1-left = after-if1 .if1 .left in
-    let is-tag-ensures = after-if1 .before .is-tag .ensures in
-    c .is-upper .ensures ∙ tag-and _ _ (sym is-tag-ensures ∙ not-false _ if1-left)
+returns-3 c = c .is-upper .ensures ∙ tag-and _ _ (tag (c .before .before .before))
 
 pub command-at-spec : {M : Type 1} → statement M
 command-at-spec =

@@ -1,26 +1,33 @@
--- `direction::confirm` meets its contract. Assumes nothing.
-use mathlib.Core.Path.{sym, _∙_}
+-- `direction::confirm` meets its contract, by the ports. Assumes nothing.
+use mathlib.Core.Path.{_≡_, sym, _∙_}
 use borrow.Author.Needs.{needs}
+use Rattle.direction.specs.Direction.{portOf}
 use Rattle.direction.proofs.Sides.{server-port, client-port, neither-port}
 use Rattle.direction.proofs.confirm.Statement.{statement}
 use Rattle.direction.proofs.confirm.Tie as tie
 
--- a way out, behind port_of, if1
+-- the server side's is the protocol's
 returns : tie.Need-returns
 returns c = server-port _ _ _ (c .if1 .taken ∙ c .before .port-of .ensures)
 
--- a way out, behind port_of, if1, if2
-returns-2 : tie.Need-returns-2
-returns-2 c =
-    let port-of-ensures = c .before .before .port-of .ensures in
-    client-port _ _ _ (λ e. c .before .if1 .left (e ∙ sym port-of-ensures)) (c .if2 .taken ∙ port-of-ensures)
+-- ---- it is not
+server-other : (c : tie.Else1) →
+    let a = c .before .before .before .before .args in
+    a .server-port ≡ portOf (a .p) → ⊥
+server-other c e = c .if1 .left (e ∙ sym (c .before .port-of .ensures))
 
--- a way out, behind port_of, if1, if2, by_payload
+-- the client side's is
+returns-2 : tie.Need-returns-2
+returns-2 c = client-port _ _ _ (server-other (c .before)) (c .if2 .taken ∙ c .before .before .port-of .ensures)
+
+-- ---- neither is: the payloads decide
+client-other : (c : tie.Else2) →
+    let a = c .before .before .before .before .before .args in
+    a .client-port ≡ portOf (a .p) → ⊥
+client-other c e = c .if2 .left (e ∙ sym (c .before .before .port-of .ensures))
+
 returns-3 : tie.Need-returns-3
-returns-3 c =
-    let if1-left = c .before .before .if1 .left in
-    let port-of-ensures = c .before .before .before .port-of .ensures in
-    c .by-payload .ensures _ _ ∙ neither-port _ _ _ (λ e. if1-left (e ∙ sym port-of-ensures)) (λ e. c .before .if2 .left (e ∙ sym port-of-ensures))
+returns-3 c = c .by-payload .ensures _ _ ∙ neither-port _ _ _ (server-other (c .before .before)) (client-other (c .before))
 
 pub confirm-spec : {M : Type 1} → statement M
 confirm-spec =

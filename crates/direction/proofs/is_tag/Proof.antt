@@ -1,4 +1,4 @@
--- `direction::is_tag` meets its contract: a tag test that has come to k. Assumes nothing.
+-- `direction::is_tag` meets its contract. The loop's invariant: whether all are bytes of a tag, those from k on decide. Assumes nothing.
 use mathlib.Core.Path.{sym, _∙_}
 use Prim.Native.Nat.{_-_}
 use lib.ListN.{length}
@@ -14,23 +14,19 @@ Inv-loop tag k₀ k = Tagged tag k
 abbrev μ-loop : tie.MeasureT-loop
 μ-loop tag k₀ k = length tag - k
 
--- a way out, in the loop behind is_tag_byte, if1
+-- the byte at k is none
 returns : tie.Need-returns Inv-loop μ-loop
 returns c =
-    let after-loop-test = c .before .before .before in
-    let loop-test-taken = after-loop-test .loop-test .taken in
-    let loop-inv = after-loop-test .before .loop .inv in
-    tagged-not loop-inv loop-test-taken (sym (c .before .is-tag-byte .ensures) ∙ not-true _ (c .if1 .taken))
+    let turn = c .before .before .before in
+    tagged-not (turn .before .loop .inv) (turn .loop-test .taken) (sym (c .before .is-tag-byte .ensures) ∙ not-true _ (c .if1 .taken))
 
--- the invariant holds after a turn, behind is_tag_byte, if1
+-- it is one: on to the next
 loop-again : tie.Need-loop-again Inv-loop μ-loop
 loop-again c =
-    let after-loop-test = c .before .before .before in
-    let loop-test-taken = after-loop-test .loop-test .taken in
-    let loop-inv = after-loop-test .before .loop .inv in
-    tagged-on loop-inv loop-test-taken (sym (c .before .is-tag-byte .ensures) ∙ not-false _ (c .if1 .left))
+    let turn = c .before .before .before in
+    tagged-on (turn .before .loop .inv) (turn .loop-test .taken) (sym (c .before .is-tag-byte .ensures) ∙ not-false _ (c .if1 .left))
 
--- a way out, in the loop
+-- none is left
 returns-2 : tie.Need-returns-2 Inv-loop μ-loop
 returns-2 c = tagged-all (c .before .loop .inv) (c .loop-test .left)
 
