@@ -8,14 +8,13 @@ use Rattle.classes.proofs.class.Tie as tie
 use Rattle.classes.proofs.class.Reads as reads
 use Rattle.classes.proofs.class.Lts as lts
 
--- the index lies inside
-array-read-result : tie.Need-array-read-result
-array-read-result c = search needs
-
--- a way out
 returns : tie.Need-returns
 unfolding agree right isWhite isBlank isPopWhite isDigit isLetter isUpper
 returns c = rule (lts.m6 reads.Pre reads.Post (c .args) (c .blocks) .1 .1 .0) tt (c .args .b) (c .fits .b .fits)
 
 pub class-spec : {M : Type 1} → statement M
-class-spec = tie.close (tie.spec array-read-result returns)
+class-spec =
+    tie.close
+    (tie.spec
+    (λ c. search needs)
+    returns)

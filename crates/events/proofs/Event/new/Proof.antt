@@ -1,9 +1,8 @@
--- `events::Event::new` meets its contract. Assumes nothing.
+-- `events::Event::new` meets its contract: the casts lose nothing. Assumes nothing.
 use borrow.Author.Needs.{needs}
 use Rattle.events.proofs.Event.new.Statement.{statement}
 use Rattle.events.proofs.Event.new.Tie as tie
 
--- a way out, behind encoding_number
 returns : tie.Need-returns
 returns c = rw (c .encoding-number .ensures)
 
