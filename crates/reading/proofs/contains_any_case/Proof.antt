@@ -16,18 +16,21 @@ Inv-loop l w p₀ p = Sought (stands (raised w) (raised l)) (raised l) p
 abbrev μ-loop : tie.MeasureT-loop
 μ-loop l w p₀ p = length l - p
 
+abbrev start : tie.At-loop Inv-loop μ-loop → tie.Start Inv-loop μ-loop
+start c = c .before .before .before
+
 -- in a turn, whether w stands at p is what `starts_with_any_case` answers for the rest of l
 stands-as : (c : tie.After-starts-with-any-case Inv-loop μ-loop) →
     let loop = c .before .before .before in
-    let a = loop .before .before .before .args in
+    let a = start loop .args in
     stands (raised (a .w .now)) (raised (a .l .now)) (loop .loop .p) ≡ c .starts-with-any-case .result
 unfolding stands
 stands-as c =
-    let a = c .before .before .before .before .before .before .args in
+    let a = start (c .before .before .before) .args in
     raised-rest _ (a .l .now) _ ∙ sym (c .starts-with-any-case .ensures)
 
--- p lies inside
-inside : (c : tie.In-loop Inv-loop μ-loop) → c .before .loop .p < length (raised (c .before .before .before .before .args .l .now))
+-- and p lies inside
+inside : (c : tie.In-loop Inv-loop μ-loop) → c .before .loop .p < length (raised (start (c .before) .args .l .now))
 inside c = rw raised-length (c .loop-test .taken)
 
 -- w stands at p

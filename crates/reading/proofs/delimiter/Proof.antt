@@ -33,22 +33,22 @@ abbrev μ-places : tie.MeasureT-places
 abbrev start : tie.At-places Inv-loop μ-loop Inv-places μ-places → tie.Start Inv-loop μ-loop Inv-places μ-places
 start c = c .before .before .before
 
--- two hyphens stand at p
+-- two hyphens stand at p, which is a place for a delimiter
 opened : (c : tie.Then2 Inv-loop μ-loop Inv-places μ-places) →
-    let places = c .before .before .before in
-    Opens (start places .args .s .now) (places .places .p) ≡ true
+    let here = c .before .before .before in
+    Opens (start here .args .s .now) (here .places .p) ≡ true
 opened c = sym (c .before .opens .ensures) ∙ c .if2 .taken
 
--- and so there is room for them
+-- so there is room for them
 room : (c : tie.Then2 Inv-loop μ-loop Inv-places μ-places) →
-    let places = c .before .before .before in
-    places .places .p + 2 ≤ length (start places .args .s .now)
+    let here = c .before .before .before in
+    here .places .p + 2 ≤ length (start here .args .s .now)
 room c = behind-none-yet [] _ _ (opened c) .room
 
--- no delimiter stands at p, where the search goes on behind it
+-- no delimiter stands at p, however control came to where the search goes on
 no-delimiter : (c : tie.Joined2 Inv-loop μ-loop Inv-places μ-places) →
-    let places = c .before .before .before in
-    delimits (start places .args .b .now) (start places .args .s .now) (places .places .p) ≡ false
+    let here = c .before .before .before in
+    delimits (start here .args .b .now) (start here .args .s .now) (here .places .p) ≡ false
 no-delimiter c =
     ⊎-elim
     -- the region ends before the boundary does

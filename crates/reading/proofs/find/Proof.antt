@@ -15,14 +15,17 @@ Inv-loop l w p₀ p = Sought (stands w l) l p
 abbrev μ-loop : tie.MeasureT-loop
 μ-loop l w p₀ p = length l - p
 
+abbrev start : tie.At-loop Inv-loop μ-loop → tie.Start Inv-loop μ-loop
+start c = c .before .before .before
+
 -- in a turn, whether w stands at p is what `starts_with` answers for the rest of l
 stands-as : (c : tie.After-starts-with Inv-loop μ-loop) →
     let loop = c .before .before .before in
-    let a = loop .before .before .before .args in
+    let a = start loop .args in
     stands (a .w .now) (a .l .now) (loop .loop .p) ≡ c .starts-with .result
 unfolding stands
 stands-as c =
-    let a = c .before .before .before .before .before .before .args in
+    let a = start (c .before .before .before) .args in
     ap (startsWith _) (sym (rest-is (a .l .now) _)) ∙ sym (c .starts-with .ensures)
 
 -- w stands at p

@@ -16,6 +16,9 @@ Inv-loop s at b k₀ k = Matched b (drop at s) k
 abbrev μ-loop : tie.MeasureT-loop
 μ-loop s at b k₀ k = length b - k
 
+sub-loop : tie.Need-sub-loop Inv-loop μ-loop
+sub-loop c = c .loop .inv .within
+
 -- ---- what is known in a turn
 
 abbrev start : tie.At-loop Inv-loop μ-loop → tie.Start Inv-loop μ-loop
@@ -71,6 +74,10 @@ loop-again c =
     matched-block (loop .loop .inv) (b-more (both .before)) (omega (arith, both .if1 .left, inside loop, length-drop (a .at) (a .s .now)))
     (rw (drop-drop k (a .at) (a .s .now)) (sym (c .before .block-equals .ensures) ∙ not-false _ (c .if2 .left)))
 
+-- ---- b has no block more
+returns-3 : tie.Need-returns-3 Inv-loop μ-loop
+returns-3 c = c .before .loop .inv
+
 pub matched-spec : {M : Type 1} → statement M
 matched-spec =
     tie.close
@@ -78,7 +85,7 @@ matched-spec =
     Inv-loop
     μ-loop
     (λ c. matched-none-yet _ _)
-    (λ c. c .loop .inv .within)
+    sub-loop
     sub-if1
     sub-if1-2
     returns
@@ -88,4 +95,4 @@ matched-spec =
     add-k
     loop-less
     loop-again
-    (λ c. c .before .loop .inv))
+    returns-3)

@@ -41,6 +41,10 @@ loop-again c =
     let turn = c .before .before in
     passed-block _ (turn .before .loop .inv) _ (block turn) (sym (c .before .block-holds .ensures) ∙ c .if1 .left)
 
+-- ---- no whole block is left
+returns-2 : tie.Need-returns-2 Inv-loop μ-loop
+returns-2 c = c .before .loop .inv
+
 pub skip-blocks-spec : {M : Type 1} → statement M
 skip-blocks-spec =
     tie.close
@@ -54,4 +58,4 @@ skip-blocks-spec =
     add-p
     loop-less
     loop-again
-    (λ c. c .before .loop .inv))
+    returns-2)

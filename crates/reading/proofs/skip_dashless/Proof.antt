@@ -50,6 +50,10 @@ loop-again c =
     let turn = c .before .before in
     passed-block _ (turn .before .loop .inv) _ (block turn) (sym (c .before .block-dashed .ensures) ∙ c .if1 .left)
 
+-- ---- no whole block is left
+returns-2 : tie.Need-returns-2 Inv-loop μ-loop
+returns-2 c = c .before .loop .inv
+
 pub skip-dashless-spec : {M : Type 1} → statement M
 skip-dashless-spec =
     tie.close
@@ -63,4 +67,4 @@ skip-dashless-spec =
     add-p
     loop-less
     loop-again
-    (λ c. c .before .loop .inv))
+    returns-2)
