@@ -28,7 +28,7 @@ module _ {o t u : List ℕ} {r : ℕ} (p : Pasted o 0 t r u) (h : length t ≤ l
   long : r ≡ length t
   long = omega (arith, p .end)
 
-  pub case-shown : Shows o (case t) (Case r) u
+  case-shown : Shows o (case t) (Case r) u
   case-shown = record { is = ap Case long; puts = p; fits = omega (arith, long, pasted-length p (omega arith)) }
 
   pub last-shown : Shows o (last t) (Last r) u

@@ -25,7 +25,7 @@ module _ (t : List ℕ) (n : ℕ) (e : Event) where
   unfolding store
   store-is = rw (add-one, add-two, add-three)
 
-  pub store-length : length (store t n e) ≡ length t
+  store-length : length (store t n e) ≡ length t
   unfolding store
   store-length = length-sets t (n * width) (numbers e)
 
@@ -34,7 +34,7 @@ module _ (t : List ℕ) (n : ℕ) (e : Event) where
   store-front k h =
       take-set-le k _ _ _ (omega arith) ∙ take-set-le k _ _ _ (omega arith) ∙ take-set-le k _ _ _ (omega arith) ∙ take-set-le k t _ _ h
 
-  pub store-behind : (k : ℕ) → (n + 1) * width ≤ k → drop k (store t n e) ≡ drop k t
+  store-behind : (k : ℕ) → (n + 1) * width ≤ k → drop k (store t n e) ≡ drop k t
   unfolding store
   store-behind k h =
       drop-set-lt k _ _ _ (omega arith) ∙ drop-set-lt k _ _ _ (omega arith) ∙ drop-set-lt k _ _ _ (omega arith) ∙ drop-set-lt k t _ _ (omega arith)

@@ -43,16 +43,16 @@ unfolding closed
 closed-inside l o (At n) h e = omega (arith, first-inside (holds 34 (drop o l)) (drop o l) n e, length-drop o l)
 closed-inside l o Nowhere h e = tt
 
-pub quoted-inside : (l : List ℕ) (o : ℕ) → o ≤ length l → Inside l (quoted l o)
+quoted-inside : (l : List ℕ) (o : ℕ) → o ≤ length l → Inside l (quoted l o)
 unfolding quoted
 quoted-inside l o h = closed-inside l o (firstPlace (holds 34 (drop o l)) (drop o l)) h refl
 
-pub unquoted-inside : (l : List ℕ) (o : ℕ) → o ≤ length l → Inside l (unquoted l o)
+unquoted-inside : (l : List ℕ) (o : ℕ) → o ≤ length l → Inside l (unquoted l o)
 unfolding unquoted
 unquoted-inside l o h = omega (arith, lead-within Bare (drop o l), length-drop o l)
 
 -- of a Content-Type line
-abbrev pub InsideType : List ℕ → ContentType → Type 0
+abbrev InsideType : List ℕ → ContentType → Type 0
 InsideType l Other = Unit {0}
 InsideType l Plain = Unit {0}
 InsideType l (Bounded o n) = o + n ≤ length l
@@ -78,7 +78,7 @@ type-if : (l : List ℕ) (t : Bool) (c : ContentType) → InsideType l c → Ins
 type-if l true c h = h
 type-if l false c h = tt
 
-pub type-inside : (l : List ℕ) → InsideType l (contentType l)
+type-inside : (l : List ℕ) → InsideType l (contentType l)
 unfolding contentType
 type-inside l = type-if l (startsWith typeField l) (parameter l (named quotedName l)) (parameter-inside l (named quotedName l) refl)
 
@@ -86,14 +86,14 @@ ext-if : (l : List ℕ) (t : Bool) (b c : Bdry) → (t ≡ true → Inside l b) 
 ext-if l true b c h g = h refl
 ext-if l false b c h g = g
 
-pub ext-inside : (l : List ℕ) → Inside l (contentTypeExt l)
+ext-inside : (l : List ℕ) → Inside l (contentTypeExt l)
 unfolding contentTypeExt
 ext-inside l =
     ext-if l (startsWith (tab ++ quotedName) l) _ _ (λ e. quoted-inside l (length (tab ++ quotedName)) (starts-long (tab ++ quotedName) l e))
     (ext-if l (startsWith (tab ++ bareName) l) _ _ (λ e. unquoted-inside l (length (tab ++ bareName)) (starts-long (tab ++ bareName) l e)) tt)
 
 -- ---- a boundary of the line from `at` up to `end`, in the header
-pub part-bytes : (h : List ℕ) (at end o n : ℕ) → o + n ≤ end - at → bytesOf h (at + o) n ≡ bytesOf (part h at end) o n
+part-bytes : (h : List ℕ) (at end o n : ℕ) → o + n ≤ end - at → bytesOf h (at + o) n ≡ bytesOf (part h at end) o n
 part-bytes h at end o n g =
     sym (ap (take n) (drop-take o (end - at) (drop at h) ∙ ap (take (end - at - o)) (drop-drop o at h)) ∙ take-take n (end - at - o) (drop (at + o) h) (omega arith))
 

@@ -49,7 +49,7 @@ module _ {r : Run} {l : List ℕ} {i : ℕ} (h : Led r l i) where
 
 -- ---- a run of the rest behind o, n bytes long
 module _ (r : Run) (l : List ℕ) (o n : ℕ) (h : n ≡ lead r (take (length l - o) (drop o l))) where
-  pub run-of-rest : n ≡ lead r (drop o l)
+  run-of-rest : n ≡ lead r (drop o l)
   run-of-rest = rw rest-is at h
 
   pub run-room : o ≤ length l → o + n ≤ length l

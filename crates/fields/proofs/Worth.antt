@@ -70,7 +70,7 @@ module _ (max n : ℕ) where
   unfolding upTo
   worth-low e = worth-if (leb n max) n e .0
 
-  pub worth-is : {m : ℕ} → upTo max n ≡ Worth m → m ≡ n
+  worth-is : {m : ℕ} → upTo max n ≡ Worth m → m ≡ n
   unfolding upTo
   worth-is e = worth-if (leb n max) n e .1
 

@@ -26,7 +26,7 @@ fewer n j w =
     let below : n < 10 ^ suc j * 10 = rw (pow-suc 10 (suc j)) at (w .1) in
     (omega arith, omega arith, (λ h. let e : suc j - 1 ≡ j = omega arith in rw e (omega (arith, above n j w))))
 
-pub spells : (k most n : ℕ) → k ≤ most → Fewest 10 1 n k → digits 10 k n ≡ spelled most n
+spells : (k most n : ℕ) → k ≤ most → Fewest 10 1 n k → digits 10 k n ≡ spelled most n
 unfolding spelled
 spells zero most n h w = absurd (omega (arith, w .0))
 spells (suc k) zero n h w = absurd (omega arith)

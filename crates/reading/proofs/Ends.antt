@@ -74,7 +74,7 @@ drop-end-take-if : (t : Bool) (n : ℕ) (l : List ℕ) → take (length (cond t 
 drop-end-take-if true n l = take-back n l
 drop-end-take-if false n l = take-length l
 
-pub drop-end-take : (w l : List ℕ) → take (length (dropEnd w l)) l ≡ dropEnd w l
+drop-end-take : (w l : List ℕ) → take (length (dropEnd w l)) l ≡ dropEnd w l
 unfolding dropEnd
 drop-end-take w l = drop-end-take-if (endsWith w l) (length l - length w) l
 

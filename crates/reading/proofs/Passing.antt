@@ -46,7 +46,7 @@ module _ (test : ℕ → Bool) where
   none-if true p n e h i k l g = absurd (let z : _≡_ {A = ℕ} 0 1 = cc in omega arith)
   none-if false p n e h i k l g = by-test (eqb k p) (λ t. rw (eqb-true k p t) e) (λ f. i h k (omega (arith, eqb-false k p f)) (omega arith))
 
-  pub none-found : (p n : ℕ) → found (first test p n) ≡ false → (k : ℕ) → p ≤ k → k < p + n → test k ≡ false
+  none-found : (p n : ℕ) → found (first test p n) ≡ false → (k : ℕ) → p ≤ k → k < p + n → test k ≡ false
   unfolding first
   none-found p zero h k l g = absurd (omega arith)
   none-found p (suc n) h k l g = none-if (test p) p n refl h (none-found (p + 1) n) k l g

@@ -101,11 +101,11 @@ pub raised-length : (l : List ℕ) → length (raised l) ≡ length l
 unfolding raised
 raised-length l = length-map l upperOf
 
-pub raised-at : (l : List ℕ) (k : ℕ) → getD (raised l) k 0 ≡ upperOf (getD l k 0)
+raised-at : (l : List ℕ) (k : ℕ) → getD (raised l) k 0 ≡ upperOf (getD l k 0)
 unfolding raised upperOf isLetter isUpper
 raised-at l k = List·getD-map upperOf l k 0
 
-pub raised-drop : (l : List ℕ) (k : ℕ) → drop k (raised l) ≡ raised (drop k l)
+raised-drop : (l : List ℕ) (k : ℕ) → drop k (raised l) ≡ raised (drop k l)
 unfolding raised
 raised-drop l zero = refl
 raised-drop [] (suc k) = refl

@@ -259,10 +259,10 @@ unfolding need react credit fetch reach parted
 react-pays (reads ph) at p g = phase-pays ph at p g (got-moves (wants ph) p p [] g) (omega arith)
 react-pays (ends o q) at p g = absurd (let z : _≡_ {A = ℕ} 0 1 = cc in omega arith)
 
-pub pays : (st : State) (at : ℕ) (p : List ℕ) → fetch (need st) p ≡ got p [] → length (react st at p .events) + credit (react st at p .next) ≤ length p + credit st
+pays : (st : State) (at : ℕ) (p : List ℕ) → fetch (need st) p ≡ got p [] → length (react st at p .events) + credit (react st at p .next) ≤ length p + credit st
 pays st at p g = react-pays st at p g .paid
 
-pub never-ten : (st : State) (at : ℕ) (p : List ℕ) → fetch (need st) p ≡ got p [] → isTen (resultOf (react st at p .next)) ≡ false
+never-ten : (st : State) (at : ℕ) (p : List ℕ) → fetch (need st) p ≡ got p [] → isTen (resultOf (react st at p .next)) ≡ false
 never-ten st at p g = react-pays st at p g .fine
 
 -- ---- a run: what holds of each reaction adds up

@@ -167,7 +167,7 @@ module _ (m : Mail) (b : List ℕ) (os : List (List ℕ)) (at : ℕ) where
   unfolding skip
   skip-rest h g = rest-if m b os (rest m at) h g
 
-  pub skip-line : (0 < rest m at → length (outermost b os) ≤ rest m at) → skip m b os at ≡ reads (skipping m b os)
+  skip-line : (0 < rest m at → length (outermost b os) ≤ rest m at) → skip m b os at ≡ reads (skipping m b os)
   unfolding skip
   skip-line h = line-if m b os (rest m at) h
 

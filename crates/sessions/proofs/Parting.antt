@@ -50,7 +50,7 @@ module _ {s t : List ℕ} {log : Log} {at : ℕ} {m : Mail} {b : List ℕ} {from
 -- ---- and back: what such an answer says as a walk
 module _ {s t : List ℕ} {log : Log} {at : ℕ} {m : Mail} {b : List ℕ} {from : List (List ℕ) → Reaction State} {Asked : List (List ℕ) → Type 0} {u : List ℕ}
     (os : List (List ℕ)) (f : Asked os) where
-  pub as-next : {p : ℕ} {n : Log} → Parts s t log at m b from Asked (parted.Next p n) u → Walks s t log at (from os) (λ q. reads (head m unknown (b ∷ os))) (walk.Went p n) u
+  as-next : {p : ℕ} {n : Log} → Parts s t log at m b from Asked (parted.Next p n) u → Walks s t log at (from os) (λ q. reads (head m unknown (b ∷ os))) (walk.Went p n) u
   as-next w = record { moved = (omega (arith, w .moved .0), w .moved .1); is = w .is os f }
 
   pub as-closed : {p : ℕ} {n : Log} → Parts s t log at m b from Asked (parted.Closed p n) u → Walks s t log at (from os) (λ q. skip m b os q) (walk.Went p n) u
