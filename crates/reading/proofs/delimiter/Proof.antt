@@ -68,13 +68,13 @@ add-last-stands : tie.Need-add-last-stands Inv-loop μ-loop Inv-places μ-places
 add-last-stands c = omega (arith, room c)
 
 last-stands-requires : tie.Need-last-stands-requires Inv-loop μ-loop Inv-places μ-places
-last-stands-requires c _ = room c
+last-stands-requires c _ = omega (arith, room c)
 
 add-matched : tie.Need-add-matched Inv-loop μ-loop Inv-places μ-places
 add-matched c = omega (arith, room (c .before .before))
 
 matched-requires : tie.Need-matched-requires Inv-loop μ-loop Inv-places μ-places
-matched-requires c _ = room (c .before .before)
+matched-requires c _ = omega (arith, room (c .before .before))
 
 -- ---- the comparison, from where whole blocks have brought it
 loop-holds : tie.Need-loop-holds Inv-loop μ-loop Inv-places μ-places
