@@ -131,15 +131,18 @@ opens b = text "Content-Type: boundary=" ++ (text b ++ (text "\r\n\r\n--" ++ (te
 -- SMTP
 abbrev envelopes : List Case
 envelopes =
-    -- a login, a mail whose dots stay doubled
-    on SmtpClient (text "Helo d\r\nAuth Login\r\nu\r\np\r\nMAIL FROM: <a>\r\nRCPT TO: <b>\r\nData\r\n\r\n..\r\n.\r\n")
-    ((9, 20, 1, 0) ∷ (10, 23, 1, 0) ∷ (11, 38, 1, 0) ∷ (12, 52, 1, 0) ∷ (1, 62, 2, 0) ∷ (2, 64, 0, 0) ∷ (3, 64, 4, 0) ∷ (6, 68, 0, 0) ∷ []) 0 71 ∷
-    -- lines skipped, a sender that fails, a recipient that fails
-    on SmtpClient (text "EHLO\nNOOP\nmail from:<a>\nRCPT TO:<b>\n") [] 5 24 ∷
-    -- STARTTLS
+    -- a login, a sender up to its line's end, a mail whose dots stay doubled, its encoding
+    on SmtpClient (text "Helo d\r\nAuth Login\r\nu\r\np\r\nMAIL FROM: <a\r\nRCPT TO: <b>\r\nData\r\nContent-Transfer-Encoding:7bit\r\n\r\n..\r\n.\r\n")
+    ((9, 20, 1, 0) ∷ (10, 23, 1, 0) ∷ (11, 38, 1, 0) ∷ (12, 51, 1, 0) ∷ (1, 61, 32, 0) ∷ (1, 93, 2, 0) ∷ (2, 95, 0, 0) ∷ (3, 95, 4, 1) ∷ (6, 99, 0, 0) ∷ []) 0 102 ∷
+    -- the line behind the password is tried as sender, whatever it is
+    on SmtpClient (text "EHLO\nAUTH LOGIN\n\n\nAUTH LOGIN\n\n") ((9, 16, 0, 0) ∷ (10, 17, 0, 0) ∷ []) 5 29 ∷
+    -- lines skipped, STARTTLS among them; a recipient that fails
+    on SmtpClient (text "EHLO\nNOOP\nSTARTTLS\nRSET\nMAIL FROM: <a\r\nRCPT TO:<b>\n") ((11, 36, 1, 0) ∷ []) 5 39 ∷
+    -- no hello; STARTTLS
+    on SmtpClient (text "X\n") [] 3 0 ∷
     on SmtpClient (text "ehlo\r\nstarttls\r\n") [] 4 6 ∷
     -- a server's lines, up to 221
-    on SmtpServer (text "250-a\n\r\n221\n") ((8, 0, 5, 0) ∷ (8, 6, 0, 0) ∷ (8, 8, 3, 0) ∷ []) 0 12 ∷
+    on SmtpServer (text "220 a\n\r\n221\n") ((8, 0, 5, 0) ∷ (8, 6, 0, 0) ∷ (8, 8, 3, 0) ∷ []) 0 12 ∷
     []
 
 -- mails without a boundary
@@ -150,11 +153,9 @@ mails =
     ++ text "Content-Transfer-Encoding: 7bit\r\n\r\nhi\n.\n.\r\n+OK\r\n+OK STLS\r\n")
     ((8, 0, 12, 0) ∷ (1, 14, 6, 0) ∷ (1, 20, 3, 0) ∷ (1, 23, 30, 0) ∷ (1, 53, 35, 0) ∷ (1, 88, 33, 0) ∷ (1, 121, 2, 0) ∷ (2, 123, 0, 0)
     ∷ (3, 123, 3, 5) ∷ (3, 126, 2, 5) ∷ (6, 128, 0, 0) ∷ (8, 131, 3, 0) ∷ (8, 136, 8, 0) ∷ []) 0 146 ∷
-    -- a literal and its encoding
-    on ImapClient (text "a APPEND {35}\r\nContent-Transfer-Encoding:7bit\r\n\r\nx\r\n")
-    ((7, 0, 13, 0) ∷ (1, 15, 32, 0) ∷ (1, 47, 2, 0) ∷ (2, 49, 0, 0) ∷ (4, 49, 1, 1) ∷ (6, 50, 0, 0) ∷ []) 1 52 ∷
-    -- a line that is only peeked at and has no colon is a command
-    on ImapClient (text "a APPEND {99}\r\nb\r\n:\n") ((7, 0, 13, 0) ∷ (7, 15, 1, 0) ∷ (7, 18, 1, 0) ∷ []) 1 20 ∷
+    -- a line that is only peeked at and has no colon is a command; a literal and its encoding
+    on ImapClient (text "a APPEND {99}\r\nb\r\nc APPEND {35}\r\nContent-Transfer-Encoding:7bit\r\n\r\nx\r\n:\n")
+    ((7, 0, 13, 0) ∷ (7, 15, 1, 0) ∷ (7, 18, 13, 0) ∷ (1, 33, 32, 0) ∷ (1, 65, 2, 0) ∷ (2, 67, 0, 0) ∷ (4, 67, 1, 1) ∷ (6, 68, 0, 0) ∷ (7, 70, 1, 0) ∷ []) 1 72 ∷
     []
 
 abbrev eight : List ℕ → List ℕ
@@ -163,12 +164,14 @@ eight s = text "+OK 1 octets\r\n" ++ (opens "1" ++ (opens "2" ++ (opens "3" ++ (
 -- multiparts
 abbrev multiparts : List Case
 multiparts =
-    -- `--qq` is a delimiter of q
-    on Pop3Server (text "+OK 1 octets\r\nContent-Type: boundary=q\r\n\r\n--qq\r\n") ((8, 0, 12, 0) ∷ (1, 14, 26, 0) ∷ (1, 40, 2, 0) ∷ []) 6 45 ∷
-    -- behind an inner close: lines up to the outermost boundary, then a header of the level outside; behind the outermost close a dot line
-    on SmtpClient (text "EHLO\nMAIL FROM:\nDATA\n" ++ (opens "qq" ++ (opens "r" ++ text "\r\n--r--\r\n--r\r\n--qq\r\n\r\nx\r\n--qq--\r\n.\r\n")))
-    ((1, 21, 27, 0) ∷ (1, 48, 2, 0) ∷ (1, 56, 26, 0) ∷ (1, 82, 2, 0) ∷ (1, 89, 2, 0) ∷ (2, 91, 0, 0) ∷ (6, 91, 0, 0) ∷ (1, 109, 2, 0)
-    ∷ (2, 111, 0, 0) ∷ (5, 111, 1, 0) ∷ (6, 112, 0, 0) ∷ []) 0 125 ∷
+    -- no close before the first part
+    on Pop3Server (text "+OK 1 octets\r\nContent-Type: boundary=q\r\n\r\n--q--\r\n") ((8, 0, 12, 0) ∷ (1, 14, 26, 0) ∷ (1, 40, 2, 0) ∷ []) 6 45 ∷
+    -- behind each of two inner closes: lines up to the outermost boundary, then a header of the level outside; behind the outermost close a dot line
+    on SmtpClient (text "EHLO\nMAIL FROM: <a\r\nDATA\n" ++ (opens "qq" ++ (opens "m" ++ (opens "r"
+    ++ text "\r\n--r--\r\n--r\r\n--m\r\n--qq\r\n\r\nx\r\n--m--\r\n--qq\r\n\r\n--qq--\r\n.\r\n"))))
+    ((11, 17, 1, 0) ∷ (1, 25, 27, 0) ∷ (1, 52, 2, 0) ∷ (1, 60, 26, 0) ∷ (1, 86, 2, 0) ∷ (1, 93, 26, 0) ∷ (1, 119, 2, 0) ∷ (1, 126, 2, 0)
+    ∷ (2, 128, 0, 0) ∷ (6, 128, 0, 0) ∷ (1, 151, 2, 0) ∷ (2, 153, 0, 0) ∷ (5, 153, 1, 0) ∷ (6, 154, 0, 0) ∷ (1, 169, 2, 0) ∷ (2, 171, 0, 0)
+    ∷ (6, 171, 0, 0) ∷ []) 0 182 ∷
     -- a folded boundary, a preamble, a dot line as content, an encoding, a part without content; a dash line and a dot line behind a close
     on Pop3Server (text "+OK 1 octets\r\nContent-Type: a\r\n\tboundary=\"qq\"\r\n\r\np\r\n--qq\r\n\r\n.\r\n"
     ++ (text "--qq\r\nContent-Transfer-Encoding: 8bit\r\n\r\nx\r\n--qq\r\n\r\n--qq--x\r\n--qq\r\n"
@@ -198,6 +201,9 @@ rests =
     -- a rest of 2 is not: a line is skipped, and once the literal is passed another
     on ImapClient (text "a APPEND {77}\r\n" ++ (opens "qq" ++ (opens "r" ++ text "\r\n--r--\r\nA: b\r\n")))
     ((7, 0, 13, 0) ∷ (1, 15, 27, 0) ∷ (1, 42, 2, 0) ∷ (1, 50, 26, 0) ∷ (1, 76, 2, 0) ∷ (1, 83, 2, 0) ∷ (2, 85, 0, 0) ∷ (6, 85, 0, 0) ∷ []) 1 98 ∷
+    -- a rest of 3 is not: a line is skipped, and then the rest of 1
+    on ImapClient (text "a APPEND {78}\r\n" ++ (opens "qq" ++ (opens "r" ++ text "\r\n--r--\r\nA: b\r\n")))
+    ((7, 0, 13, 0) ∷ (1, 15, 27, 0) ∷ (1, 42, 2, 0) ∷ (1, 50, 26, 0) ∷ (1, 76, 2, 0) ∷ (1, 83, 2, 0) ∷ (2, 85, 0, 0) ∷ (6, 85, 0, 0) ∷ (1, 93, 5, 0) ∷ []) 1 98 ∷
     -- a dot line behind a close ends nothing in IMAP
     on ImapClient (text "a APPEND {99}\r\n" ++ (opens "q" ++ text "\r\n--q--\r\n.\r\n--q\r\n\r\nb\r\n"))
     ((7, 0, 13, 0) ∷ (1, 15, 26, 0) ∷ (1, 41, 2, 0) ∷ (1, 48, 2, 0) ∷ (2, 50, 0, 0) ∷ (6, 50, 0, 0) ∷ (7, 67, 1, 0) ∷ []) 1 70 ∷
