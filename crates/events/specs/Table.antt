@@ -1,7 +1,7 @@
 -- Events go into the table from the front: document 01, 'The event table' and refusal 10 of 'What comes back'.
 -- Assumes nothing.
 use mathlib.Core.Path.{_≡_}
-use mathlib.Core.Bool.{cond}
+use mathlib.Core.Bool.{Bool, cond}
 use mathlib.Core.List.{List, [], _∷_}
 use Prim.Native.Nat.{ℕ, _+_, _*_, _/_}
 use lib.Dec.{ltb}
@@ -34,15 +34,26 @@ eventAt t n =
       encoding = getD t (n * width + 3) 0;
     }
 
--- what has become of events and a table: all n events of the session so far are written; or n are, and the next, due at a place, found no slot
-pub data Poured : Type 0 where
-  all : (table : List ℕ) (n : ℕ) → Poured
-  full : (table : List ℕ) (place n : ℕ) → Poured
+-- what a writer knows is the log's: a slot is free while the events so far are fewer than the slots
+abbrev pub free : List ℕ → Log → Bool
+free t log = ltb (log .count) (slots t)
 
--- events go to slot n and the slots behind it; a slot is free while the count is below the number of slots
-unfoldable pub pour : List Event → List ℕ → ℕ → Poured
-pour [] t n = all t n
-pour (e ∷ es) t n = cond (ltb n (slots t)) (pour es (store t n e) (n + 1)) (full t (e .offset) n)
+abbrev pub noEvents : Log
+noEvents = record { count = 0 }
+
+-- with one event more
+abbrev pub counted : Log → Log
+counted log = record { count = log .count + 1 }
+
+-- what has become of events and a table: all are written; or the one due at a place found no slot. The log knows how many are
+pub data Poured : Type 0 where
+  all : (table : List ℕ) (log : Log) → Poured
+  full : (table : List ℕ) (place : ℕ) (log : Log) → Poured
+
+-- events go to the slots behind those of the log, from the first free one on
+unfoldable pub pour : List Event → List ℕ → Log → Poured
+pour [] t log = all t log
+pour (e ∷ es) t log = cond (free t log) (pour es (store t (log .count) e) (counted log)) (full t (e .offset) log)
 
 -- what a session comes to: the table afterwards, result, place, event count
 pub record Final : Type 0 where
@@ -60,16 +71,16 @@ finalOf t a = final t (a .result) (a .place) (a .count)
 
 -- the result and place given, unless an event found no slot: then refusal 10 at that event's offset
 unfoldable pub finish : Poured → Outcome → ℕ → Final
-finish (all t n) r p = final t r p n
-finish (full t q n) r p = final t TableFull q n
+finish (all t log) r p = final t r p (log .count)
+finish (full t q log) r p = final t TableFull q (log .count)
 
 -- what `put` answers, and the table then
-abbrev pub putOf : List ℕ → ℕ → Listed
-putOf t n = cond (ltb n (slots t)) (Written (record { count = n + 1 })) Full
+abbrev pub putOf : List ℕ → Log → Listed
+putOf t log = cond (free t log) (Written (counted log)) Full
 
-abbrev pub tableOf : List ℕ → ℕ → Event → List ℕ
-tableOf t n e = cond (ltb n (slots t)) (store t n e) t
+abbrev pub tableOf : List ℕ → Log → Event → List ℕ
+tableOf t log e = cond (free t log) (store t (log .count) e) t
 
 pub record Puts (t : List ℕ) (log : Log) (e : Event) (r : Listed) (u : List ℕ) : Type 0 where
-  pub answer : r ≡ putOf t (log .count)
-  pub table : u ≡ tableOf t (log .count) e
+  pub answer : r ≡ putOf t log
+  pub table : u ≡ tableOf t log e

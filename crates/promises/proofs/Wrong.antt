@@ -10,7 +10,7 @@ use Rattle.classes.specs.Classes.{isWhite, isBlank, isPopWhite, isDigit, isLett
 use Rattle.direction.specs.Direction.{side, guessNumber, guess, confirm}
 use Rattle.direction.specs.declared.Guess.the-variants.{Swapped}
 use Rattle.events.specs.Events.{ev, numbers, resultNumber, encodingNumber, sizedBody}
-use Rattle.events.specs.Table.{Final, store, pour, finish, tableOf}
+use Rattle.events.specs.Table.{Final, noEvents, store, pour, finish, tableOf}
 use Rattle.events.specs.declared.Encoding.the-variants.{Base64}
 use Rattle.events.specs.declared.Outcome.the-variants.{TooDeep}
 use Rattle.fields.specs.Common.{encodingNamed, behindSpaces, transferEncoding, closed, quoted, unquoted, typed, named, bareParameter, parameter, contentType, contentTypeExt}
@@ -118,7 +118,7 @@ leaves =
     -- Event::new: offset and length changed over; no encoding
     (numbers (ev sizedBody 25 3 Base64) is-neither 4 ∷ 3 ∷ 25 ∷ 5 ∷ [] nor 4 ∷ 25 ∷ 3 ∷ 0 ∷ []) ∷
     -- put: nothing written; a number past the slot written
-    (tableOf (7 ∷ 7 ∷ 7 ∷ 7 ∷ 7 ∷ []) 0 (ev sizedBody 25 3 Base64) is-neither 7 ∷ 7 ∷ 7 ∷ 7 ∷ 7 ∷ [] nor 4 ∷ 25 ∷ 3 ∷ 5 ∷ 0 ∷ []) ∷
+    (tableOf (7 ∷ 7 ∷ 7 ∷ 7 ∷ 7 ∷ []) noEvents (ev sizedBody 25 3 Base64) is-neither 7 ∷ 7 ∷ 7 ∷ 7 ∷ 7 ∷ [] nor 4 ∷ 25 ∷ 3 ∷ 5 ∷ 0 ∷ []) ∷
     -- number of a result, of a guess: the next one; 0
     (resultNumber TooDeep ∷ [] is-neither 10 ∷ [] nor 0 ∷ []) ∷
     (guessNumber Swapped ∷ [] is-neither 2 ∷ [] nor 0 ∷ []) ∷

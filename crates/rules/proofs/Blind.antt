@@ -249,7 +249,7 @@ blinds (Phases.literal e n) at l g = literal-blind e n at l g
 blinds (Phases.preamble m b os) at l g = still-blind (reads (Phases.preamble m b os)) at l g refl
 blinds (Phases.opened m b os) at l g = still-blind (reads (Phases.opened m b os)) at l g
     (either (same crlf l) (then [] (Phases.head m unknown (b ∷ os))) (stop [] BadDelimiter at) refl refl)
-blinds (Phases.content m e b os) at l g = still-blind (reads (Phases.content m e b os)) at l g (still-content e at (contentLength b l))
+blinds (Phases.content m e b os) at l g = still-blind (reads (Phases.content m e b os)) at l g (still-content e at (contentLength b (length l)))
 blinds (Phases.between m b os) at l g = still-blind (reads (Phases.between m b os)) at l g
     (either (same hyphens l) (record { events = []; next = skip m b os (at + length l) })
     (cond (same crlf l) (then [] (Phases.head m unknown (b ∷ os))) (stop [] BadDelimiter at)) refl

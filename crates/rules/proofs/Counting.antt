@@ -11,7 +11,7 @@ use lib.ListN.{length, length-append}
 use borrow.Author.Tests.{eqb-true}
 use Rattle.events.proofs.Laws.{pour-count, enough-plain}
 use Rattle.events.specs.Events.{sizedBody, partBody, resultNumber}
-use Rattle.events.specs.Table.{Final, slots}
+use Rattle.events.specs.Table.{Final, noEvents, slots}
 use Rattle.events.specs.declared.Encoding.{Encoding}
 use Rattle.events.specs.declared.Event.{Event}
 use Rattle.events.specs.declared.Outcome.{Outcome}
@@ -38,7 +38,7 @@ use Rattle.rules.specs.Mail.{onPreamble, onOpened, contentLength, onCont
 use Rattle.rules.specs.Phases
 use Rattle.rules.specs.Phases.{Phase, State, reads, ends, wants, need, then, stop, ahead}
 use Rattle.rules.specs.Pop3.{onStatus}
-use Rattle.rules.specs.Sessions.{reacts, react, session, resultOf, placeOf, settle, limit, answer}
+use Rattle.rules.specs.Sessions.{reacts, react, fetches, session, resultOf, placeOf, settle, limit, answer}
 use Rattle.rules.specs.Smtp.{onHello, given, bySecond, onSecond, onUser, onPassword, onSender, onSeeking, byRecipient, onRecipient, onReply}
 use Rattle.rules.specs.declared.Mail.{Mail}
 use Rattle.rules.specs.declared.Mail.the-variants.{Smtp, Pop3, Imap}
@@ -244,7 +244,7 @@ phase-pays {n} (Phases.text m e) at p g byte h = either (Pays n) (same dotLine p
 phase-pays (Phases.literal e k) at p g byte h = on (omega (arith, whole-two sizedBody e at (length p)))
 phase-pays (Phases.preamble m b os) at p g byte h = on (omega arith)
 phase-pays {n} (Phases.opened m b os) at p g byte h = either (Pays n) (same crlf p) (λ t. on (omega arith)) (over refl)
-phase-pays (Phases.content m e b os) at p g byte h = on (omega (arith, whole-two partBody e at (contentLength b p), delimiter-two b p g))
+phase-pays (Phases.content m e b os) at p g byte h = on (omega (arith, whole-two partBody e at (contentLength b (length p)), delimiter-two b p g))
 phase-pays {n} (Phases.between m b os) at p g byte h =
     either (Pays n) (same hyphens p) (λ t. skip-pays m (omega arith) b os (rest m (at + length p)))
     (either (Pays n) (same crlf p) (λ t. on (omega arith)) (over refl))
@@ -271,7 +271,7 @@ record Bounded (st : State) (s : List ℕ) (o : Ran State) : Type 0 where
   fine : isTen (resultOf st) ≡ false → isTen (resultOf (o .state)) ≡ false
 
 turn-bounded : (k : State → ℕ → List ℕ → Ran State) (st : State) (at : ℕ) (s : List ℕ) (g : Got) → fetch (need st) s ≡ g
-    → ((su : State) (to : ℕ) (r : List ℕ) → Bounded su r (k su to r)) → Bounded st s (turn State need react k st at s g)
+    → ((su : State) (to : ℕ) (r : List ℕ) → Bounded su r (k su to r)) → Bounded st s (turn State fetches react k st at s g)
 unfolding turn
 turn-bounded k st at s short e b = record { few = omega arith; fine = λ h. h }
 turn-bounded k st at s (got p r) e b =
@@ -282,10 +282,10 @@ turn-bounded k st at s (got p r) e b =
       fine = λ h. rest .fine (never-ten st at p i);
     }
 
-go-bounded : (k : ℕ) (st : State) (at : ℕ) (s : List ℕ) → Bounded st s (go State need react k st at s)
+go-bounded : (k : ℕ) (st : State) (at : ℕ) (s : List ℕ) → Bounded st s (go State fetches react k st at s)
 unfolding go
 go-bounded zero st at s = record { few = omega arith; fine = λ h. h }
-go-bounded (suc k) st at s = turn-bounded (go State need react k) st at s (fetch (need st) s) refl (go-bounded k)
+go-bounded (suc k) st at s = turn-bounded (go State fetches react k) st at s (fetch (need st) s) refl (go-bounded k)
 
 run-bounded : (st : State) (at : ℕ) (s : List ℕ) → Bounded st s (session st at s)
 unfolding run
@@ -296,11 +296,11 @@ events-bound st at s = run-bounded st at s .few
 
 -- ---- what the table holds of a run
 module _ (t : List ℕ) (o : Ran State) where
-  settled-count : settle t 0 o .count ≤ length (o .events)
+  settled-count : settle t noEvents o .count ≤ length (o .events)
   unfolding settle
-  settled-count = omega (arith, pour-count (o .events) t 0 (resultOf (o .state)) (placeOf (o .state) (o .at)))
+  settled-count = omega (arith, pour-count (o .events) t noEvents (resultOf (o .state)) (placeOf (o .state) (o .at)))
 
-  settled-fine : length (o .events) ≤ slots t → isTen (resultOf (o .state)) ≡ false → isTen (settle t 0 o .result) ≡ false
+  settled-fine : length (o .events) ≤ slots t → isTen (resultOf (o .state)) ≡ false → isTen (settle t noEvents o .result) ≡ false
   unfolding settle
   settled-fine h f = rw (enough-plain (o .events) t (resultOf (o .state)) (placeOf (o .state) (o .at)) h) f
 

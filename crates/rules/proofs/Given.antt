@@ -7,13 +7,13 @@ use Prim.Native.Nat.{ℕ, zero, suc, _+_, _*_, _-_, _≤_, _<_}
 use native.Mathlib.Nat.{zero-add}
 use native.Mathlib.Numerals.{add-one}
 use native.Mathlib.Omega.{arith}
-use lib.Dec.{ltb}
 use lib.ListN.{length, take, set, getD, length-set}
 use lib.Seq.{getD-take, getD-set-same, getD-set-other}
 use borrow.Author.Tests.{ltb-true}
 use Rattle.events.proofs.Laws.{store-is, store-front, keeps}
-use Rattle.events.specs.Table.{slots, store, eventAt, Poured, full, pour, Final, finish}
+use Rattle.events.specs.Table.{slots, store, free, noEvents, counted, eventAt, Poured, full, pour, Final, finish}
 use Rattle.events.specs.declared.Event.{Event}
+use Rattle.events.specs.declared.Log.{Log}
 use Rattle.events.specs.declared.Outcome.{Outcome}
 use Rattle.rules.specs.Secrecy.{eventsIn, eventsOf}
 
@@ -79,18 +79,24 @@ gives-on t n e es f h g w =
     events-snoc (store t n e) 0 n ∙ rw (zero-add, events-kept t n e 0 n (omega arith), event-stored t n e h) refl in
     w ∙ rw (y, z) (append-assoc (eventsIn t 0 n) (e ∷ []) (take (f .count - (n + 1)) es))
 
-gives-if : (t : List ℕ) (n q : ℕ) (e : Event) (es : List Event) (r : Outcome) (p : ℕ) (b : Bool) (x : Poured) → ltb n (slots t) ≡ b → n + 1 ≤ finish x r p .count
-    → Gives (store t n e) (n + 1) es (finish x r p) → Gives t n (e ∷ es) (finish (cond b x (full t q n)) r p)
+gives-if : (t : List ℕ) (log : Log) (q : ℕ) (e : Event) (es : List Event) (r : Outcome) (p : ℕ) (b : Bool) (x : Poured) → free t log ≡ b
+    → log .count + 1 ≤ finish x r p .count → Gives (store t (log .count) e) (log .count + 1) es (finish x r p)
+    → Gives t (log .count) (e ∷ es) (finish (cond b x (full t q log)) r p)
 unfolding finish
-gives-if t n q e es r p true x h g w = gives-on t n e es (finish x r p) (ltb-true n (slots t) h) g w
-gives-if t n q e es r p false x h g w = gives-none t n (e ∷ es)
+gives-if t log q e es r p true x h g w = gives-on t (log .count) e es (finish x r p) (ltb-true (log .count) (slots t) h) g w
+gives-if t log q e es r p false x h g w = gives-none t (log .count) (e ∷ es)
 
-pour-gives : (es : List Event) (t : List ℕ) (n : ℕ) (r : Outcome) (p : ℕ) → Gives t n es (finish (pour es t n) r p)
+pour-gives : (es : List Event) (t : List ℕ) (log : Log) (r : Outcome) (p : ℕ) → Gives t (log .count) es (finish (pour es t log) r p)
 unfolding pour finish
-pour-gives [] t n r p = gives-none t n []
-pour-gives (e ∷ es) t n r p =
-    gives-if t n _ e es r p (ltb n (slots t)) (pour es (store t n e) (n + 1)) refl (keeps es (store t n e) (n + 1) r p .grown) (pour-gives es (store t n e) (n + 1) r p)
+pour-gives [] t log r p = gives-none t (log .count) []
+pour-gives (e ∷ es) t log r p =
+    gives-if t log _ e es r p (free t log) (pour es (store t (log .count) e) (counted log)) refl
+    (keeps es (store t (log .count) e) (counted log) r p .grown) (pour-gives es (store t (log .count) e) (counted log) r p)
 
-pub poured-given : (es : List Event) (t : List ℕ) (r : Outcome) (p : ℕ) → eventsOf (finish (pour es t 0) r p) ≡ take (finish (pour es t 0) r p .count) es
-unfolding eventsOf eventsIn
-poured-given es t r p = let z : finish (pour es t 0) r p .count - 0 ≡ finish (pour es t 0) r p .count = omega arith in rw z at (pour-gives es t 0 r p)
+module _ (es : List Event) (t : List ℕ) (r : Outcome) (p : ℕ) where
+  abbrev into : Final
+  into = finish (pour es t noEvents) r p
+
+  pub poured-given : eventsOf into ≡ take (into .count) es
+  unfolding eventsOf eventsIn
+  poured-given = let z : into .count - 0 ≡ into .count = omega arith in rw z at (pour-gives es t noEvents r p)

@@ -8,7 +8,7 @@ use lib.Dec.{ltb}
 use lib.ListN.{length}
 use Rattle.events.proofs.Laws.{Keeps, keeps, pour-room}
 use Rattle.events.specs.Events.{width}
-use Rattle.events.specs.Table.{Final, finalOf, slots}
+use Rattle.events.specs.Table.{Final, finalOf, noEvents, slots}
 use Rattle.events.specs.declared.Answer.{Answer}
 use Rattle.reading.proofs.Places.{by-test}
 use Rattle.rules.specs.Phases.{Phase, reads}
@@ -20,14 +20,14 @@ module _ (start : Phase) (t s : List ℕ) where
   kept =
       by-test (ltb limit (length s))
       (λ long. rw long (record { grown = omega arith; front = λ j h. refl; behind = refl; long = refl }))
-      (λ fits. rw fits (keeps (session (reads start) 0 s .events) t 0 _ _))
+      (λ fits. rw fits (keeps (session (reads start) 0 s .events) t noEvents _ _))
 
   pub room : answer start t s .count ≤ slots t
   unfolding answer settle
   room =
       by-test (ltb limit (length s))
       (λ long. rw long (omega arith))
-      (λ fits. rw fits (pour-room (session (reads start) 0 s .events) t 0 _ _ (omega arith)))
+      (λ fits. rw fits (pour-room (session (reads start) 0 s .events) t noEvents _ _ (omega arith)))
 
 -- so that the numbers of its events lie in its table
 pub written : (start : Phase) (t s u : List ℕ) (a : Answer) → finalOf u a ≡ answer start t s → width * a .count ≤ length u

@@ -9,7 +9,9 @@ use lib.Dec.{eqb, ltb}
 use lib.ListN.{length, take, drop, getD, take-append-drop, length-append, length-take}
 use lib.Seq.{take-length, take-nil}
 use borrow.Author.Tests.{ltb-true, ltb-false}
+use Rattle.events.specs.Table.{noEvents}
 use Rattle.events.specs.declared.Event.{Event}
+use Rattle.events.specs.declared.Log.{Log}
 use Rattle.reading.proofs.Alike.{got-cut}
 use Rattle.reading.proofs.Pieces.{got-splits, got-itself, got-alone}
 use Rattle.reading.proofs.Places.{by-test}
@@ -20,7 +22,7 @@ use Rattle.rules.specs.Phases.{Phase, State, reads, need}
 use Rattle.rules.specs.Secrecy.{inside, mayTurn, may, Replaced, eventsIn, eventsOf}
 use Rattle.rules.specs.Sessions.{react, session, resultOf, placeOf, settle, answer, limit}
 use Rattle.rules.proofs.Given.{poured-given}
-use Rattle.rules.proofs.Machines.{run-short, run-got, got-shorter}
+use Rattle.rules.proofs.Machines.{session-shorter, session-short, session-got}
 use Rattle.rules.proofs.Changes.{AllLie, all-lie-append, changed-piece, changed-rest, still, unchanged}
 use Rattle.rules.proofs.Blind.{Blind, or-same, blind}
 
@@ -30,14 +32,14 @@ lies-turn : (st : State) (at : ℕ) (s : List ℕ) (g : Got) → fetch (need st)
     → ((su : State) (to : ℕ) (r : List ℕ) → length r < length s → AllLie to (to + length r) (session su to r .events))
     → AllLie at (at + length s) (session st at s .events)
 unfolding AllLie
-lies-turn st at s short f i = rw (run-short State need react st at s f) tt
+lies-turn st at s short f i = rw (session-short st at s f) tt
 lies-turn st at s (got p r) f i =
     let l : length s ≡ length p + length r = ap length (got-splits (need st) s p r f) ∙ length-append p r in
     let z : at + length p + length r ≡ at + length s = omega (arith, l) in
-    rw (run-got State need react st at s p r f)
+    rw (session-got st at s p r f)
     (all-lie-append at (at + length p) (at + length s) (react st at p .events) (session (react st at p .next) (at + length p) r .events) (omega arith) (omega (arith, l))
     (blind st at p (got-itself (need st) s p r f) .lie)
-    (rw z at (i (react st at p .next) (at + length p) r (got-shorter (need st) s p r f))))
+    (rw z at (i (react st at p .next) (at + length p) r (session-shorter st s p r f))))
 
 run-lies : (n : ℕ) (st : State) (at : ℕ) (s : List ℕ) → length s ≤ n → AllLie at (at + length s) (session st at s .events)
 run-lies zero st at s h = lies-turn st at s (fetch (need st) s) refl (λ su to r g. absurd (omega arith))
@@ -49,9 +51,9 @@ record Alike (a b : Ran State) : Type 0 where
   state : a .state ≡ b .state
   at : a .at ≡ b .at
 
-alike-settle : (t : List ℕ) (n : ℕ) (a b : Ran State) → Alike a b → settle t n a ≡ settle t n b
+alike-settle : (t : List ℕ) (log : Log) (a b : Ran State) → Alike a b → settle t log a ≡ settle t log b
 unfolding settle
-alike-settle t n a b w = rw (w .events, w .state, w .at) refl
+alike-settle t log a b w = rw (w .events, w .state, w .at) refl
 
 alike-before : (es : List Event) (a b : Ran State) → Alike a b → Alike (before es a) (before es b)
 alike-before es a b w = record { events = ap (λ (fs : List Event). es ++ fs) (w .events); state = w .state; at = w .at }
@@ -70,7 +72,7 @@ module _ (st : State) (at : ℕ) (s u : List ℕ) (k : ℕ) where
   told-short : fetch (need st) s ≡ short → Replaced (session st at s .events) at s u → Told
   unfolding still
   told-short f w =
-      let e : u ≡ s = unchanged [] at s u refl (rw (run-short State need react st at s f) at w) in
+      let e : u ≡ s = unchanged [] at s u refl (rw (session-short st at s f) at w) in
       rw e (record { events = refl; state = refl; at = refl })
 
   module _ (p r : List ℕ) (f : fetch (need st) s ≡ got p r) (w : Replaced (session st at s .events) at s u) where
@@ -84,7 +86,7 @@ module _ (st : State) (at : ℕ) (s u : List ℕ) (k : ℕ) where
     rest-events = session (react st at p .next) (at + length p) r .events
 
     changed : Replaced (react st at p .events ++ rest-events) at (p ++ r) u
-    changed = rw (run-got State need react st at s p r f, got-splits (need st) s p r f) at w
+    changed = rw (session-got st at s p r f, got-splits (need st) s p r f) at w
 
     blinded : Blind st at p
     blinded = blind st at p (got-itself (need st) s p r f)
@@ -104,8 +106,8 @@ module _ (st : State) (at : ℕ) (s u : List ℕ) (k : ℕ) where
     told-cut : k < length p → Told
     told-cut h =
         let a : fetch (need st) u ≡ got q v = ap (fetch (need st)) (sym (take-append-drop (length p) u)) ∙ read-again v in
-        let b = run-short State need react st at (take k u) (got-cut (need st) u q v k a (omega (arith, piece-changed .long))) in
-        let c = run-short State need react st at (take k s) (got-cut (need st) s p r k f h) in
+        let b = session-short st at (take k u) (got-cut (need st) u q v k a (omega (arith, piece-changed .long))) in
+        let c = session-short st at (take k s) (got-cut (need st) s p r k f h) in
         rw (b, c) (record { events = refl; state = refl; at = refl })
 
     told-on : length p ≤ k
@@ -117,8 +119,8 @@ module _ (st : State) (at : ℕ) (s u : List ℕ) (k : ℕ) where
         ∙ taken k q v (omega (arith, piece-changed .long))
         ∙ rw (piece-changed .long) refl in
         let b : take k s ≡ p ++ take (k - length p) r = ap (take k) (got-splits (need st) s p r f) ∙ taken k p r h in
-        let c = run-got State need react st at (q ++ take (k - length p) v) q (take (k - length p) v) (read-again (take (k - length p) v)) in
-        let d = run-got State need react st at (p ++ take (k - length p) r) p (take (k - length p) r) (got-alone (need st) s p r f (take (k - length p) r)) in
+        let c = session-got st at (q ++ take (k - length p) v) q (take (k - length p) v) (read-again (take (k - length p) v)) in
+        let d = session-got st at (p ++ take (k - length p) r) p (take (k - length p) r) (got-alone (need st) s p r f (take (k - length p) r)) in
         rw (a, b, c, d, blinded .same q piece-changed, piece-changed .long) (alike-before (react st at p .events) _ _ i)
 
 told-turn : (st : State) (at : ℕ) (s u : List ℕ) (k : ℕ) (g : Got) → fetch (need st) s ≡ g → Replaced (session st at s .events) at s u
@@ -130,7 +132,7 @@ told-turn st at s u k (got p r) f w i =
     (λ t. told-cut st at s u k p r f w (ltb-true k (length p) t))
     (λ t.
     told-on st at s u k p r f w (ltb-false k (length p) t)
-    (i (react st at p .next) (at + length p) r (drop (length p) u) (k - length p) (got-shorter (need st) s p r f) (rest-changed st at s u k p r f w)))
+    (i (react st at p .next) (at + length p) r (drop (length p) u) (k - length p) (session-shorter st s p r f) (rest-changed st at s u k p r f w)))
 
 told : (n : ℕ) (st : State) (at : ℕ) (s u : List ℕ) (k : ℕ) → length s ≤ n → Replaced (session st at s .events) at s u → Told st at s u k
 told zero st at s u k h w = told-turn st at s u k (fetch (need st) s) refl w (λ su to r v j g. absurd (omega arith))
@@ -141,7 +143,7 @@ pub beginnings : (start : Phase) (s u : List ℕ) → Replaced (session (reads s
 unfolding answer
 beginnings start s u w k t =
     let n : length (take k u) ≡ length (take k s) = length-take k u ∙ rw (w .long) (sym (length-take k s)) in
-    rw (n, alike-settle t 0 (session (reads start) 0 (take k u)) (session (reads start) 0 (take k s)) (told (length s) (reads start) 0 s u k (omega arith) w)) refl
+    rw (n, alike-settle t noEvents (session (reads start) 0 (take k u)) (session (reads start) 0 (take k s)) (told (length s) (reads start) 0 s u k (omega arith) w)) refl
 
 -- ---- and for the events of the answer given
 or-more : (x a b : Bool) → (a ≡ true → b ≡ true) → (x || a) ≡ true → (x || b) ≡ true
@@ -167,8 +169,8 @@ secrecy start t s u w =
     (λ l. ap (answer start t) (unchanged [] 0 s u refl (rw l at w)))
     (λ l.
     let o = session (reads start) 0 s in
-    let v : Replaced (eventsOf (settle t 0 o)) 0 s u = rw l at w in
-    let x : Replaced (o .events) 0 s u = replaced-more (settle t 0 o .count) (o .events) 0 s u
+    let v : Replaced (eventsOf (settle t noEvents o)) 0 s u = rw l at w in
+    let x : Replaced (o .events) 0 s u = replaced-more (settle t noEvents o .count) (o .events) 0 s u
     (rw (poured-given (o .events) t (resultOf (o .state)) (placeOf (o .state) (o .at))) at v) in
     let n : take (length s) u ≡ u = ap (λ (k : ℕ). take k u) (sym (w .long)) ∙ take-length u in
     rw (n, take-length s) at (beginnings start s u x (length s) t))

@@ -90,9 +90,9 @@ held kind e at (suc n) = ev kind at (suc n) e ∷ []
 unfoldable pub whole : ℕ → Encoding → ℕ → ℕ → List Event
 whole kind e at n = held kind e at n ++ (ev bodyStop (at + n) 0 Unsaid ∷ [])
 
--- in IMAP: size less header bytes
-unfoldable pub onLiteral : Encoding → ℕ → List ℕ → Reaction State
-onLiteral e at l = then (whole sizedBody e at (length l)) phase.closing
+-- in IMAP: size less header bytes, n of them
+unfoldable pub onLiteral : Encoding → ℕ → ℕ → Reaction State
+onLiteral e at n = then (whole sizedBody e at n) phase.closing
 
 -- ---- a boundary: preamble to the first delimiter, then CRLF or refusal 6
 unfoldable pub onPreamble : Mail → List ℕ → List (List ℕ) → Reaction State
@@ -101,12 +101,13 @@ onPreamble m b os = then [] (phase.opened m b os)
 unfoldable pub onOpened : Mail → List ℕ → List (List ℕ) → ℕ → List ℕ → Reaction State
 onOpened m b os at l = cond (same crlf l) (then [] (phase.head m unknown (b ∷ os))) (stop [] BadDelimiter at)
 
--- ---- a part's content, to the delimiter: what that takes is CRLF, two hyphens and the boundary. At the region's start there is no CRLF, and no content
-unfoldable pub contentLength : List ℕ → List ℕ → ℕ
-contentLength b l = length l - (length b + 4)
+-- ---- a part's content, to the delimiter, n bytes with it: what that takes is CRLF, two hyphens and the boundary. At the region's start there is no CRLF,
+-- and no content
+unfoldable pub contentLength : List ℕ → ℕ → ℕ
+contentLength b n = n - (length b + 4)
 
-unfoldable pub onContent : Mail → Encoding → List ℕ → List (List ℕ) → ℕ → List ℕ → Reaction State
-onContent m e b os at l = then (whole partBody e at (contentLength b l)) (phase.between m b os)
+unfoldable pub onContent : Mail → Encoding → List ℕ → List (List ℕ) → ℕ → ℕ → Reaction State
+onContent m e b os at n = then (whole partBody e at (contentLength b n)) (phase.between m b os)
 
 -- ---- after any close: lines are skipped
 

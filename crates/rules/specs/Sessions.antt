@@ -6,9 +6,11 @@ use mathlib.Core.List.{List, []}
 use Prim.Native.Nat.{ℕ}
 use lib.Dec.{ltb}
 use lib.ListN.{length}
-use Rattle.events.specs.Table.{Final, final, pour, finish}
+use Rattle.events.specs.Table.{Final, final, noEvents, pour, finish}
+use Rattle.events.specs.declared.Log.{Log}
 use Rattle.events.specs.declared.Outcome.{Outcome}
 use Rattle.events.specs.declared.Outcome.the-variants.{Incomplete, TooLong}
+use Rattle.reading.specs.Reading.{Got, fetch}
 use Rattle.rules.specs.Imap.{onCommand, onOffered, onClosing}
 use Rattle.rules.specs.Machine.{Reaction, Ran, run}
 use Rattle.rules.specs.Mail.{onHead, onText, onLiteral, onPreamble, onOpened, onContent, onBetween, onSkipping, onResting}
@@ -35,10 +37,10 @@ reacts (Phases.offered size) at l = onOffered size at l
 reacts Phases.closing at l = onClosing at l
 reacts (Phases.head m k os) at l = onHead m k os at l
 reacts (Phases.text m e) at l = onText m e at l
-reacts (Phases.literal e n) at l = onLiteral e at l
+reacts (Phases.literal e n) at l = onLiteral e at (length l)
 reacts (Phases.preamble m b os) at l = onPreamble m b os
 reacts (Phases.opened m b os) at l = onOpened m b os at l
-reacts (Phases.content m e b os) at l = onContent m e b os at l
+reacts (Phases.content m e b os) at l = onContent m e b os at (length l)
 reacts (Phases.between m b os) at l = onBetween m b os at l
 reacts (Phases.skipping m b os) at l = onSkipping m b os at l
 reacts (Phases.resting m b os n) at l = onResting m os at l
@@ -47,8 +49,12 @@ unfoldable pub react : State → ℕ → List ℕ → Reaction State
 react (reads ph) at l = reacts ph at l
 react (ends r p) at l = stop [] r p
 
+-- a state takes the piece that it needs
+abbrev pub fetches : State → List ℕ → Got
+fetches st s = fetch (need st) s
+
 abbrev pub session : State → ℕ → List ℕ → Ran State
-session st at s = run State need react st at s
+session st at s = run State fetches react st at s
 
 -- where a run has come to a phase that waits, it is incomplete, where that read began
 unfoldable pub resultOf : State → Outcome
@@ -59,16 +65,16 @@ unfoldable pub placeOf : State → ℕ → ℕ
 placeOf (reads ph) at = at
 placeOf (ends r p) at = p
 
--- its events in the table from slot n on, and what that comes to
-unfoldable pub settle : List ℕ → ℕ → Ran State → Final
-settle t n o = finish (pour (o .events) t n) (resultOf (o .state)) (placeOf (o .state) (o .at))
+-- its events in the table, behind those of the log, and what that comes to
+unfoldable pub settle : List ℕ → Log → Ran State → Final
+settle t log o = finish (pour (o .events) t log) (resultOf (o .state)) (placeOf (o .state) (o .at))
 
 abbrev pub limit : ℕ
 limit = 16777216
 
 -- the answer of a session that starts so: 2 first
 unfoldable pub answer : Phase → List ℕ → List ℕ → Final
-answer start t s = cond (ltb limit (length s)) (final t TooLong 0 0) (settle t 0 (session (reads start) 0 s))
+answer start t s = cond (ltb limit (length s)) (final t TooLong 0 0) (settle t noEvents (session (reads start) 0 s))
 
 -- ---- the four entries
 

@@ -5,7 +5,7 @@ use mathlib.Core.List.{List}
 use Prim.Native.Nat.{ℕ, _≤_, _<_}
 use lib.ListN.{length}
 use borrow.Author.Tests.{lt-ltb, le-ltb}
-use Rattle.events.specs.Table.{Final, finalOf}
+use Rattle.events.specs.Table.{Final, finalOf, noEvents}
 use Rattle.events.specs.declared.Answer.{Answer}
 use Rattle.events.specs.declared.Outcome.the-variants.{TooLong}
 use Rattle.rules.specs.Phases.{Phase, reads}
@@ -13,10 +13,10 @@ use Rattle.rules.specs.Sessions.{limit, session, settle, answer}
 use Rattle.sessions.specs.Walks.{Stopped}
 
 module _ (start : Phase) (s t : List ℕ) where
-  pub too-long : (a : Answer) → limit < length s → Stopped TooLong 0 (record { count = 0 }) a → finalOf t a ≡ answer start t s
+  pub too-long : (a : Answer) → limit < length s → Stopped TooLong 0 noEvents a → finalOf t a ≡ answer start t s
   unfolding answer
   too-long a h w = rw (lt-ltb limit (length s) h, w .result, w .place, w .count)
 
-  pub in-limit : (f : Final) → length s ≤ limit → f ≡ settle t 0 (session (reads start) 0 s) → f ≡ answer start t s
+  pub in-limit : (f : Final) → length s ≤ limit → f ≡ settle t noEvents (session (reads start) 0 s) → f ≡ answer start t s
   unfolding answer
   in-limit f h w = rw (le-ltb limit (length s) h) w

@@ -36,7 +36,7 @@ pub record HeadAt (h t : List ℕ) (log : Log) (base : ℕ) (k : Scan) (p : ℕ)
   pub inside : Inside h (k .boundary)
   pub long : length u ≡ length t
   pub is : (m : Mail) (os : List (List ℕ))
-      → settle u (n .count) (session (reads (head m (knownOf h k) os)) (base + p) (drop p h)) ≡ settle t (log .count) (session (reads (head m unknown os)) base h)
+      → settle u n (session (reads (head m (knownOf h k) os)) (base + p) (drop p h)) ≡ settle t log (session (reads (head m unknown os)) base h)
 
 pub head-start : (h t : List ℕ) (log : Log) (base : ℕ) → HeadAt h t log base blank 0 log t
 head-start h t log base = record { within = omega arith; inside = tt; long = refl; is = λ m os. rw add-zero }
@@ -59,7 +59,7 @@ module _ {h t : List ℕ} {log : Log} {base : ℕ} {k : Scan} {p : ℕ} {n : Log
   unfolding wants
   head-short d c = record {
     moved = tt;
-    is = λ m os. rw (c .result, c .place, c .count) (d .is (head m (knownOf h k) os) refl (base + p) u (n .count)) ∙ w .is m os;
+    is = λ m os. rw (c .result, c .place, c .count) (d .is (head m (knownOf h k) os) refl (base + p) u n) ∙ w .is m os;
   }
 
   module _ {e : ℕ} (d : Ends aLine h p e) where
@@ -69,7 +69,7 @@ module _ {h t : List ℕ} {log : Log} {base : ℕ} {k : Scan} {p : ℕ} {n : Log
       is = λ m os.
           c .is (turned m (knownOf h k) os (base + e) (part h p e) (same crlf (part h p e)) .events)
           (session (turned m (knownOf h k) os (base + e) (part h p e) (same crlf (part h p e)) .next) (base + e) (drop e h))
-          ∙ ap (settle u (n .count)) (sym (head-turn h base p e (same crlf (part h p e)) m (knownOf h k) os d refl))
+          ∙ ap (settle u n) (sym (head-turn h base p e (same crlf (part h p e)) m (knownOf h k) os d refl))
           ∙ w .is m os;
     }
 
@@ -80,7 +80,7 @@ module _ {h t : List ℕ} {log : Log} {base : ℕ} {k : Scan} {p : ℕ} {n : Log
         is = λ m os.
             c .is (begun m (k .encoding) (bdryBytes h (k .boundary)) os (base + e) .events)
             (session (begun m (k .encoding) (bdryBytes h (k .boundary)) os (base + e) .next) (base + e) (drop e h))
-            ∙ ap (settle u (n .count)) (sym (head-turn h base p e true m (knownOf h k) os d q))
+            ∙ ap (settle u n) (sym (head-turn h base p e true m (knownOf h k) os d q))
             ∙ w .is m os;
       }
 
@@ -91,8 +91,8 @@ module _ {h t : List ℕ} {log : Log} {base : ℕ} {k : Scan} {p : ℕ} {n : Log
         inside = y .inside;
         long = l ∙ w .long;
         is = λ m os.
-            ap (λ (x : Known). settle v (next .count) (session (reads (head m x os)) (base + e) (drop e h))) (y .is)
+            ap (λ (x : Known). settle v next (session (reads (head m x os)) (base + e) (drop e h))) (y .is)
             ∙ c .is [] (session (reads (head m (scanned (knownOf h k) (part h p e)) os)) (base + e) (drop e h))
-            ∙ ap (settle u (n .count)) (sym (head-turn h base p e false m (knownOf h k) os d q))
+            ∙ ap (settle u n) (sym (head-turn h base p e false m (knownOf h k) os d q))
             ∙ w .is m os;
       }

@@ -65,17 +65,17 @@ module _ (s t : List ℕ) (log : Log) (at kind : ℕ) where
       → Notes t log (ev kind at (end - at) Unsaid) (noted.Written next) u → LinedTo s t log at kind end e next u
   lined-to {end} {e} d p = record {
     line = d;
-    is = λ ph h. p .is (h .behind (part s at e)) (session (reacts ph at (part s at e) .next) e (drop e s)) ∙ ap (settle t (log .count)) (sym (listing end e ph h d));
+    is = λ ph h. p .is (h .behind (part s at e)) (session (reacts ph at (part s at e) .next) e (drop e s)) ∙ ap (settle t log) (sym (listing end e ph h d));
   }
 
   pub lined-full : {end e : ℕ} {a : Answer} {u : List ℕ} → Cleaned s at end e
       → Notes t log (ev kind at (end - at) Unsaid) (noted.Stopped a) u → LinedStop s t log at kind a u
   lined-full {end} {e} d p = record {
-    is = λ ph h. p .is (h .behind (part s at e)) (session (reacts ph at (part s at e) .next) e (drop e s)) ∙ ap (settle t (log .count)) (sym (listing end e ph h d));
+    is = λ ph h. p .is (h .behind (part s at e)) (session (reacts ph at (part s at e) .next) e (drop e s)) ∙ ap (settle t log) (sym (listing end e ph h d));
   }
 
   pub lined-short : {o : Outcome} {a : Answer} → Stops aLine s at o → Stopped o at log a → LinedStop s t log at kind a t
-  lined-short d w = record { is = λ ph h. rw (w .result, w .place, w .count) (d .is ph (h .wants) at t (log .count)) }
+  lined-short d w = record { is = λ ph h. rw (w .result, w .place, w .count) (d .is ph (h .wants) at t log) }
 
 -- ---- what a listed line leaves to do
 module _ {s t : List ℕ} {log : Log} {at kind : ℕ} {ph : Phase} {u : List ℕ} {to : ℕ → State} (h : Lists kind at ph) where

@@ -109,7 +109,7 @@ module _ (s : List ℕ) {t : List ℕ} {log : Log} {at : ℕ} {u : List ℕ} whe
     head-within g = omega (arith, h .moved .1, length-drop at s)
 
     head-is : (m : Mail) (os : List (List ℕ)) (x : Option (List ℕ)) → bdryBytes (drop at s) (k .boundary) ≡ x
-        → settle u (n .count) (under (begun m (k .encoding) x os (at + e)) (at + e) (drop (at + e) s)) ≡ settle t (log .count) (session (reads (head m unknown os)) at (drop at s))
+        → settle u n (under (begun m (k .encoding) x os (at + e)) (at + e) (drop (at + e) s)) ≡ settle t log (session (reads (head m unknown os)) at (drop at s))
     head-is m os x q = rw (← q, ← (drop-drop e at s)) (h .is m os)
 
     pub head-lies : (o l : ℕ) → at ≤ length s → k .boundary ≡ Of o l → Lies s (supplied at o l)
@@ -152,7 +152,7 @@ module _ (s : List ℕ) {t : List ℕ} {log : Log} {at : ℕ} {u : List ℕ} whe
         moved = tt;
         is = λ os f.
             let d : leb 8 (length (piece s b ∷ os)) ≡ true = le-leb 8 (length (piece s b ∷ os)) (omega (arith, f .deep)) in
-            rw (c .result, c .place, c .count) (ended TooDeep (at + e) (at + e) (drop (at + e) s) u (n .count)) ∙ rw d at (head-is m (piece s b ∷ os) _ (bytes-is o l q));
+            rw (c .result, c .place, c .count) (ended TooDeep (at + e) (at + e) (drop (at + e) s) u n) ∙ rw d at (head-is m (piece s b ∷ os) _ (bytes-is o l q));
       }
 
       -- a deeper one

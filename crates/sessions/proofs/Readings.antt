@@ -9,7 +9,7 @@ use lib.Dec.{ltb}
 use lib.ListN.{length, drop, length-take, length-drop}
 use lib.Seq.{drop-drop}
 use borrow.Author.Tests.{lt-ltb, le-ltb}
-use Rattle.events.specs.Table.{final, slots, pour, finish, Puts}
+use Rattle.events.specs.Table.{final, free, counted, pour, finish, Puts}
 use Rattle.events.specs.declared.Event.{Event}
 use Rattle.events.specs.declared.Listed.the-variants.{Written, Full}
 use Rattle.events.specs.declared.Log.{Log}
@@ -26,7 +26,7 @@ use Rattle.rules.specs.Phases.{Phase, State, reads, ends, wants, need}
 use Rattle.rules.specs.Sessions.{reacts, react, session, resultOf, placeOf, settle}
 use Rattle.sessions.specs.Walks.{Ends, Stops, under, piece, Lies}
 use Rattle.sessions.specs.declared.reads.Boundary.{Boundary}
-use Rattle.rules.proofs.Machines.{run-short, run-got}
+use Rattle.rules.proofs.Machines.{session-short, session-got}
 
 -- ---- a read, by how far it reaches
 pub part-length : (s : List ℕ) (i j : ℕ) → j ≤ length s → length (part s i j) ≡ j - i
@@ -43,22 +43,22 @@ ends-at nd s i e h r =
 pub stops-at : (nd : Need) (s : List ℕ) (i : ℕ) → reach nd (drop i s) ≡ Nowhere → Stops nd s i Incomplete
 unfolding fetch parted settle finish pour resultOf placeOf need
 stops-at nd s i r = record {
-  is = λ ph w a t n.
+  is = λ ph w a t log.
       let f : fetch (wants ph) (drop i s) ≡ short = rw (w, r) in
-      sym (ap (settle t n) (run-short State need react (reads ph) a (drop i s) f));
+      sym (ap (settle t log) (session-short (reads ph) a (drop i s) f));
 }
 
 -- ---- a turn
 pub turn : (ph : Phase) (s : List ℕ) (i j a : ℕ) → Ends (wants ph) s i j → session (reads ph) a (drop i s) ≡ under (reacts ph a (part s i j)) (a + (j - i)) (drop j s)
 unfolding need react
 turn ph s i j a e =
-    run-got State need react (reads ph) a (drop i s) (part s i j) (drop j s) (e .is)
+    session-got (reads ph) a (drop i s) (part s i j) (drop j s) (e .is)
     ∙ ap (λ (k : ℕ). under (reacts ph a (part s i j)) (a + k) (drop j s)) (e .long)
 
 -- the end stays the end
-pub ended : (o : Outcome) (p a : ℕ) (l t : List ℕ) (n : ℕ) → final t o p n ≡ settle t n (session (ends o p) a l)
+pub ended : (o : Outcome) (p a : ℕ) (l t : List ℕ) (log : Log) → final t o p (log .count) ≡ settle t log (session (ends o p) a l)
 unfolding fetch parted reach need settle finish pour resultOf placeOf
-ended o p a l t n = sym (ap (settle t n) (run-short State need react (ends o p) a l refl))
+ended o p a l t log = sym (ap (settle t log) (session-short (ends o p) a l refl))
 
 -- ---- an event
 written-if : (b : Bool) (next log : Log) → Written next ≡ cond b (Written log) Full → (b ≡ true) × (next ≡ log)
@@ -71,16 +71,16 @@ full-if false log h = refl
 
 module _ {t : List ℕ} {log : Log} {e : Event} {u : List ℕ} where
   pub put-written : (next : Log) → Puts t log e (Written next) u → (es : List Event) (o : Ran State)
-      → settle u (next .count) (before es o) ≡ settle t (log .count) (before (e ∷ es) o)
+      → settle u next (before es o) ≡ settle t log (before (e ∷ es) o)
   unfolding settle pour
   put-written next p es o =
-      let w = written-if (ltb (log .count) (slots t)) next (record { count = log .count + 1 }) (p .answer) in
+      let w = written-if (free t log) next (counted log) (p .answer) in
       rw (p .table, w .0, w .1)
 
-  pub put-full : Puts t log e Full u → (es : List Event) (o : Ran State) → final u TableFull (e .offset) (log .count) ≡ settle t (log .count) (before (e ∷ es) o)
+  pub put-full : Puts t log e Full u → (es : List Event) (o : Ran State) → final u TableFull (e .offset) (log .count) ≡ settle t log (before (e ∷ es) o)
   unfolding settle pour finish
   put-full p es o =
-      let w = full-if (ltb (log .count) (slots t)) (record { count = log .count + 1 }) (p .answer) in
+      let w = full-if (free t log) (counted log) (p .answer) in
       rw (p .table, w)
 
 -- ---- sized reads

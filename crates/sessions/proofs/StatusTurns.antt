@@ -95,11 +95,11 @@ module _ {s : List ℕ} {at e : ℕ} (d : Ends aLine s at e) (size : ℕ) where
   module _ {t : List ℕ} {log : Log} {to : ℕ → State} where
     pub offered-mail : {r : Walk} {u : List ℕ} → holdsColon (part s at e) ≡ true → Walks s t log at (then [] (head (Imap size at) unknown [])) to r u
         → Walks s t log at (then [] (offered size)) to r u
-    offered-mail h w = record { moved = w .moved; is = w .is ∙ ap (settle t (log .count)) (sym (offered-is h)) }
+    offered-mail h w = record { moved = w .moved; is = w .is ∙ ap (settle t log) (sym (offered-is h)) }
 
   pub offered-none : {t : List ℕ} {log : Log} → holdsColon (part s at e) ≡ false → at ≤ length s
       → Walks s t log at (then [] (offered size)) (λ p. reads command) (walk.Went at log) t
-  offered-none {t} {log} h g = record { moved = (omega arith, g); is = ap (settle t (log .count)) (sym (offered-not h)) }
+  offered-none {t} {log} h g = record { moved = (omega arith, g); is = ap (settle t log) (sym (offered-not h)) }
 
 -- ---- the two bytes behind a literal: CRLF, anything else is refused
 module _ {s t : List ℕ} {log : Log} {at : ℕ} where

@@ -39,11 +39,11 @@ module _ {s t : List ℕ} {log : Log} {to : ℕ → State} where
 
   -- ---- a stop
   pub stop : {at : ℕ} {o : Outcome} {p : ℕ} {a : Answer} → Stopped o p log a → Walks s t log at (goes (ends o p)) to (walk.Stopped a) t
-  stop {at} {o} {p} w = record { moved = tt; is = rw (w .result, w .place, w .count) (ended o p at (drop at s) t (log .count)) }
+  stop {at} {o} {p} w = record { moved = tt; is = rw (w .result, w .place, w .count) (ended o p at (drop at s) t log) }
 
   -- ---- a read of the phase that stops, or goes on with what the phase does
   pub read-stop : {at : ℕ} {o : Outcome} {a : Answer} (ph : Phase) → Stops (wants ph) s at o → Stopped o at log a → Walks s t log at (goes (reads ph)) to (walk.Stopped a) t
-  read-stop {at} {o} ph d w = record { moved = tt; is = rw (w .result, w .place, w .count) (d .is ph refl at t (log .count)) }
+  read-stop {at} {o} ph d w = record { moved = tt; is = rw (w .result, w .place, w .count) (d .is ph refl at t log) }
 
   pub read : {at e : ℕ} {r : Walk} {u : List ℕ} (ph : Phase) → Ends (wants ph) s at e → Walks s t log e (reacts ph at (part s at e)) to r u
       → Walks s t log at (goes (reads ph)) to r u
@@ -51,7 +51,7 @@ module _ {s t : List ℕ} {log : Log} {to : ℕ → State} where
       let n : at + (e - at) ≡ e = omega (arith, d .on) in
       record {
         moved = further s at e r (omega (arith, d .on)) (w .moved);
-        is = w .is ∙ ap (settle t (log .count)) (ap (λ (k : ℕ). under (reacts ph at (part s at e)) k (drop e s)) (sym n) ∙ sym (turn ph s at e at d));
+        is = w .is ∙ ap (settle t log) (ap (λ (k : ℕ). under (reacts ph at (part s at e)) k (drop e s)) (sym n) ∙ sym (turn ph s at e at d));
       }
 
   -- ---- an event that finds no slot, or goes into the table

@@ -57,7 +57,7 @@ pub record Ends (nd : Need) (s : List ℕ) (i j : ℕ) : Type 0 where
 
 -- a read at i stops the session: whatever phase asks for it, at whatever place a of the session
 pub record Stops (nd : Need) (s : List ℕ) (i : ℕ) (o : Outcome) : Type 0 where
-  pub is : (ph : Phase) → wants ph ≡ nd → (a : ℕ) (t : List ℕ) (n : ℕ) → final t o a n ≡ settle t n (session (reads ph) a (drop i s))
+  pub is : (ph : Phase) → wants ph ≡ nd → (a : ℕ) (t : List ℕ) (log : Log) → final t o a (log .count) ≡ settle t log (session (reads ph) a (drop i s))
 
 abbrev pub ReadIs : Need → List ℕ → ℕ → Read → Type 0
 ReadIs nd s i (read.To j) = Ends nd s i j
@@ -92,12 +92,12 @@ TwoIs s i (pair.Stop o) = Stops two s i o
 -- ---- events
 
 abbrev pub notedLeft : List ℕ → List Event → Ran State → Noted → Final
-notedLeft u es o (noted.Written log) = settle u (log .count) (before es o)
+notedLeft u es o (noted.Written log) = settle u log (before es o)
 notedLeft u es o (noted.Stopped a) = finalOf u a
 
 -- an event goes to the table, whatever comes behind it
 pub record Notes (t : List ℕ) (log : Log) (e : Event) (r : Noted) (u : List ℕ) : Type 0 where
-  pub is : (es : List Event) (o : Ran State) → notedLeft u es o r ≡ settle t (log .count) (before (e ∷ es) o)
+  pub is : (es : List Event) (o : Ran State) → notedLeft u es o r ≡ settle t log (before (e ∷ es) o)
 
 -- ---- walks
 
@@ -109,7 +109,7 @@ abbrev pub under : Reaction State → ℕ → List ℕ → Ran State
 under re a l = before (re .events) (session (re .next) a l)
 
 abbrev pub walkLeft : List ℕ → List ℕ → (ℕ → State) → Walk → Final
-walkLeft s u to (walk.Went p log) = settle u (log .count) (session (to p) p (drop p s))
+walkLeft s u to (walk.Went p log) = settle u log (session (to p) p (drop p s))
 walkLeft s u to (walk.Stopped a) = finalOf u a
 
 abbrev pub Moved : List ℕ → ℕ → Walk → Type 0
@@ -119,7 +119,7 @@ Moved s at (walk.Stopped a) = Unit {0}
 -- from a reaction under way at `at` to a state that hangs on the place: what is left to do stays the same
 pub record Walks (s t : List ℕ) (log : Log) (at : ℕ) (from : Reaction State) (to : ℕ → State) (r : Walk) (u : List ℕ) : Type 0 where
   pub moved : Moved s at r
-  pub is : walkLeft s u to r ≡ settle t (log .count) (under from at (drop at s))
+  pub is : walkLeft s u to r ≡ settle t log (under from at (drop at s))
 
 abbrev pub Farther : ℕ → Walk → Type 0
 Farther at (walk.Went p log) = at < p
@@ -143,10 +143,10 @@ apart {kind} {at} {ph} h l = record { events = h .behind l; next = reacts ph at 
 pub record LinedTo (s t : List ℕ) (log : Log) (at kind end to : ℕ) (next : Log) (u : List ℕ) : Type 0 where
   pub line : Cleaned s at end to
   pub is : (ph : Phase) (h : Lists kind at ph)
-      → settle u (next .count) (under (apart h (part s at to)) to (drop to s)) ≡ settle t (log .count) (session (reads ph) at (drop at s))
+      → settle u next (under (apart h (part s at to)) to (drop to s)) ≡ settle t log (session (reads ph) at (drop at s))
 
 pub record LinedStop (s t : List ℕ) (log : Log) (at kind : ℕ) (a : Answer) (u : List ℕ) : Type 0 where
-  pub is : (ph : Phase) → Lists kind at ph → finalOf u a ≡ settle t (log .count) (session (reads ph) at (drop at s))
+  pub is : (ph : Phase) → Lists kind at ph → finalOf u a ≡ settle t log (session (reads ph) at (drop at s))
 
 abbrev pub LinedIs : List ℕ → List ℕ → Log → ℕ → ℕ → Lined → List ℕ → Type 0
 LinedIs s t log at kind (lined.To end to next) u = LinedTo s t log at kind end to next u
@@ -160,7 +160,7 @@ Adds t log es to r u = (s : List ℕ) (st : ℕ → State) → to ≤ length s �
 
 abbrev pub headedLeft : List ℕ → ℕ → List ℕ → Mail → List (List ℕ) → Headed → Final
 headedLeft h base u m os (headed.Went k e log) =
-    settle u (log .count) (under (begun m (k .encoding) (bdryBytes h (k .boundary)) os (base + e)) (base + e) (drop e h))
+    settle u log (under (begun m (k .encoding) (bdryBytes h (k .boundary)) os (base + e)) (base + e) (drop e h))
 headedLeft h base u m os (headed.Stopped a) = finalOf u a
 
 abbrev pub MovedHead : List ℕ → Headed → Type 0
@@ -169,7 +169,7 @@ MovedHead h (headed.Stopped a) = Unit {0}
 
 pub record Headers (h t : List ℕ) (log : Log) (base : ℕ) (r : Headed) (u : List ℕ) : Type 0 where
   pub moved : MovedHead h r
-  pub is : (m : Mail) (os : List (List ℕ)) → headedLeft h base u m os r ≡ settle t (log .count) (session (reads (head m unknown os)) base h)
+  pub is : (m : Mail) (os : List (List ℕ)) → headedLeft h base u m os r ≡ settle t log (session (reads (head m unknown os)) base h)
 
 -- ---- multiparts
 
@@ -191,8 +191,8 @@ pub record Within (s : List ℕ) (b outer : Boundary) (levels : ℕ) (os : List 
   pub outermost : outermost (piece s b) os ≡ piece s outer
 
 abbrev pub partedLeft : List ℕ → List ℕ → Mail → List ℕ → List (List ℕ) → Parted → Final
-partedLeft s u m b os (parted.Next p log) = settle u (log .count) (session (reads (head m unknown (b ∷ os))) p (drop p s))
-partedLeft s u m b os (parted.Closed p log) = settle u (log .count) (session (skip m b os p) p (drop p s))
+partedLeft s u m b os (parted.Next p log) = settle u log (session (reads (head m unknown (b ∷ os))) p (drop p s))
+partedLeft s u m b os (parted.Closed p log) = settle u log (session (skip m b os p) p (drop p s))
 partedLeft s u m b os (parted.Stopped a) = finalOf u a
 
 abbrev pub MovedPart : List ℕ → ℕ → Parted → Type 0
@@ -204,12 +204,12 @@ MovedPart s at (parted.Stopped a) = Unit {0}
 pub record Parts (s t : List ℕ) (log : Log) (at : ℕ) (m : Mail) (b : List ℕ)
     (from : List (List ℕ) → Reaction State) (Asked : List (List ℕ) → Type 0) (r : Parted) (u : List ℕ) : Type 0 where
   pub moved : MovedPart s at r
-  pub is : (os : List (List ℕ)) → Asked os → partedLeft s u m b os r ≡ settle t (log .count) (under (from os) at (drop at s))
+  pub is : (os : List (List ℕ)) → Asked os → partedLeft s u m b os r ≡ settle t log (under (from os) at (drop at s))
 
 pub record Inner (s t : List ℕ) (log : Log) (at : ℕ)
     (from : List (List ℕ) → Reaction State) (to : List (List ℕ) → ℕ → State) (Asked : List (List ℕ) → Type 0) (r : Walk) (u : List ℕ) : Type 0 where
   pub moved : Moved s at r
-  pub is : (os : List (List ℕ)) → Asked os → walkLeft s u (to os) r ≡ settle t (log .count) (under (from os) at (drop at s))
+  pub is : (os : List (List ℕ)) → Asked os → walkLeft s u (to os) r ≡ settle t log (under (from os) at (drop at s))
 
 -- ---- what each walk of a multipart with the boundary b answers
 

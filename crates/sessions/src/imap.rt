@@ -7,7 +7,7 @@ ghost use Rattle.rules.specs.Phases.{reads, command, offered, head, then};
 ghost use Rattle.rules.specs.Sessions.{limit, session, settle};
 ghost use Rattle.fields.specs.Common.{unknown};
 ghost use Rattle.rules.specs.declared.Mail.the-variants.{Imap};
-ghost use Rattle.events.specs.Table.{finalOf};
+ghost use Rattle.events.specs.Table.{finalOf, noEvents};
 ghost use Rattle.sessions.specs.Walks.{Walks, Turns};
 use crate::header::read_mail;
 use crate::reads::Lined;
@@ -29,7 +29,7 @@ use rules::Mail;
 
 pub fn client(s: &[u8], table: &mut [u32]) -> Answer
     requires { ⌜ length (now s) ≤ limit ⌝ }
-    ensures { λ r. ⌜ finalOf (now (table .exit)) r ≡ settle (now (table .entry)) 0 (session (reads command) 0 (now (s .entry))) ⌝ }
+    ensures { λ r. ⌜ finalOf (now (table .exit)) r ≡ settle (now (table .entry)) noEvents (session (reads command) 0 (now (s .entry))) ⌝ }
 {
     let mut p = 0;
     let mut n = Log { count: 0 };

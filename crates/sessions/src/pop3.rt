@@ -4,7 +4,7 @@ ghost use Prim.Native.Nat.{_≤_};
 ghost use lib.ListN.{length};
 ghost use Rattle.rules.specs.Phases.{reads, status};
 ghost use Rattle.rules.specs.Sessions.{limit, session, settle};
-ghost use Rattle.events.specs.Table.{finalOf};
+ghost use Rattle.events.specs.Table.{finalOf, noEvents};
 ghost use Rattle.sessions.specs.Walks.{Turns};
 use crate::header::read_mail;
 use crate::reads::Lined;
@@ -21,7 +21,7 @@ use rules::Mail;
 
 pub fn server(s: &[u8], table: &mut [u32]) -> Answer
     requires { ⌜ length (now s) ≤ limit ⌝ }
-    ensures { λ r. ⌜ finalOf (now (table .exit)) r ≡ settle (now (table .entry)) 0 (session (reads status) 0 (now (s .entry))) ⌝ }
+    ensures { λ r. ⌜ finalOf (now (table .exit)) r ≡ settle (now (table .entry)) noEvents (session (reads status) 0 (now (s .entry))) ⌝ }
 {
     let mut p = 0;
     let mut n = Log { count: 0 };

@@ -8,7 +8,7 @@ ghost use Rattle.fields.specs.Smtp.{rcptTo};
 ghost use Rattle.rules.specs.Phases.{reads, hello, second, user, sender, seeking, recipient, reply, head, then};
 ghost use Rattle.rules.specs.Sessions.{limit, session, settle};
 ghost use Rattle.rules.specs.Smtp.{tried, byRecipient};
-ghost use Rattle.events.specs.Table.{finalOf};
+ghost use Rattle.events.specs.Table.{finalOf, noEvents};
 ghost use Rattle.sessions.specs.Walks.{Walks};
 ghost use Rattle.fields.specs.Common.{unknown};
 ghost use Rattle.rules.specs.declared.Mail.the-variants.{Smtp};
@@ -44,7 +44,7 @@ use rules::Mail;
 
 pub fn client(s: &[u8], table: &mut [u32]) -> Answer
     requires { ⌜ length (now s) ≤ limit ⌝ }
-    ensures { λ r. ⌜ finalOf (now (table .exit)) r ≡ settle (now (table .entry)) 0 (session (reads hello) 0 (now (s .entry))) ⌝ }
+    ensures { λ r. ⌜ finalOf (now (table .exit)) r ≡ settle (now (table .entry)) noEvents (session (reads hello) 0 (now (s .entry))) ⌝ }
 {
     let none = Log { count: 0 };
     match hello(s, none) {
@@ -199,7 +199,7 @@ fn recipient(s: &[u8], at: usize, end: usize, to: usize, table: &mut [u32], log:
 
 pub fn server(s: &[u8], table: &mut [u32]) -> Answer
     requires { ⌜ length (now s) ≤ limit ⌝ }
-    ensures { λ r. ⌜ finalOf (now (table .exit)) r ≡ settle (now (table .entry)) 0 (session (reads reply) 0 (now (s .entry))) ⌝ }
+    ensures { λ r. ⌜ finalOf (now (table .exit)) r ≡ settle (now (table .entry)) noEvents (session (reads reply) 0 (now (s .entry))) ⌝ }
 {
     let mut p = 0;
     let mut n = Log { count: 0 };
