@@ -69,6 +69,8 @@ pub enum Outcome {
     OpenLiteral,
     TooDeep,
     TableFull,
+    LongBoundary,
+    NoSession,
 }
 
 pub struct Answer {
@@ -137,5 +139,7 @@ pub fn result_number(r: Outcome) -> u32
         Outcome::OpenLiteral => 8,
         Outcome::TooDeep => 9,
         Outcome::TableFull => 10,
+        Outcome::LongBoundary => 12,
+        Outcome::NoSession => 20,
     }
 }

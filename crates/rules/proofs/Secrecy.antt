@@ -41,7 +41,7 @@ lies-turn st at s (got p r) f i =
     (blind st at p (got-itself (need st) s p r f) .lie)
     (rw z at (i (react st at p .next) (at + length p) r (session-shorter st s p r f))))
 
-run-lies : (n : ℕ) (st : State) (at : ℕ) (s : List ℕ) → length s ≤ n → AllLie at (at + length s) (session st at s .events)
+pub run-lies : (n : ℕ) (st : State) (at : ℕ) (s : List ℕ) → length s ≤ n → AllLie at (at + length s) (session st at s .events)
 run-lies zero st at s h = lies-turn st at s (fetch (need st) s) refl (λ su to r g. absurd (omega arith))
 run-lies (suc n) st at s h = lies-turn st at s (fetch (need st) s) refl (λ su to r g. run-lies n su to r (omega arith))
 

@@ -1,0 +1,9 @@
+pub mod Piecemeal
+pub mod Marks
+pub mod Delimiters
+pub mod Sized
+pub mod Courses
+pub mod Bridge
+pub mod Firm
+pub mod Runs
+pub mod Cut
