@@ -104,7 +104,7 @@ fn by_type(h: &[u8], at: usize, end: usize, encoding: Encoding, seen: bool) -> S
 }
 
 // The first valid encoding counts.
-fn first_encoding(e: Encoding, l: &[u8]) -> Encoding
+pub fn first_encoding(e: Encoding, l: &[u8]) -> Encoding
     ensures { λ r. ⌜ r ≡ firstEncoding e (now (l .entry)) ⌝ }
 {
     match e {

@@ -10,7 +10,7 @@ use lib.ListN.{length, drop, length-take, length-drop}
 use lib.Seq.{drop-drop, take-take}
 use borrow.Author.Tests.{lt-ltb, le-ltb}
 use Rattle.events.specs.declared.Outcome.the-variants.{Incomplete}
-use Rattle.fields.specs.Common.{part}
+use Rattle.fields.specs.Common.{part, dashBdry}
 use Rattle.reading.proofs.Ends.{clean-within, clean-take}
 use Rattle.reading.proofs.Pieces.{reaches, got-reach, got-length}
 use Rattle.reading.proofs.Places.{at-same}
@@ -18,7 +18,9 @@ use Rattle.reading.proofs.Words.{same-is}
 use Rattle.reading.specs.Bytes.{same}
 use Rattle.reading.specs.Reading.{Need, aLine, bytes, two, crlf, clean, short, reach, parted, fetch}
 use Rattle.reading.specs.declared.Place.the-variants.{At, Nowhere}
-use Rattle.rules.specs.Mail.{hyphens}
+use Rattle.rules.specs.Mail.{hyphens, lastLine}
+use Rattle.rules.specs.declared.Mail.{Mail}
+use Rattle.rules.specs.declared.Mail.the-variants.{Smtp, Pop3, Imap}
 use Rattle.reads.specs.Contracts.{Ends, Stops, Cleaned, Pair, NoPair}
 
 pub part-length : (s : List ℕ) (i j : ℕ) → j ≤ length s → length (part s i j) ≡ j - i
@@ -94,3 +96,10 @@ module _ (s : List ℕ) (i : ℕ) {e : ℕ} (d : Ends two s i e) where
     no-crlf = ap (λ (k : ℕ). same crlf (part s i k)) (sym to-two) ∙ h;
     no-hyphens = ap (λ (k : ℕ). same hyphens (part s i k)) (sym to-two) ∙ g;
   }
+
+-- a dash line is the last, whose ever the mail is
+pub last-dash : (m : Mail) (o l : List ℕ) → dashBdry o l ≡ true → true ≡ lastLine m o l
+unfolding lastLine
+last-dash Smtp o l h = rw h
+last-dash Pop3 o l h = rw h
+last-dash (Imap size start) o l h = rw h

@@ -15,6 +15,8 @@ use Rattle.reading.specs.Bytes.{same}
 use Rattle.reading.specs.Reading.{Need, aLine, two, crlf, clean, reach, got, fetch}
 use Rattle.reading.specs.declared.Place.the-variants.{Nowhere}
 use Rattle.rules.specs.Mail.{hyphens}
+use Rattle.rules.specs.declared.Mail.{Mail}
+use Rattle.rules.specs.declared.Mail.the-variants.{Imap}
 use Rattle.reads.specs.declared.Clean.{Clean}
 use Rattle.reads.specs.declared.Clean.the-variants as clean-line
 use Rattle.reads.specs.declared.Noted.{Noted}
@@ -92,3 +94,9 @@ pub record Written (t : List ℕ) (log : Log) (es : List Event) (next : Log) (u 
 abbrev pub Notes : List ℕ → Log → List Event → Noted → List ℕ → Type 0
 Notes t log es (noted.Written next) u = Written t log es next u
 Notes t log es (noted.Stopped a) u = Full t log es a u
+
+-- ---- mails
+
+-- an IMAP mail's header begins at `to` or before
+pub record Begins (m : Mail) (to : ℕ) : Type 0 where
+  pub is : (size start : ℕ) → m ≡ Imap size start → start ≤ to

@@ -1,12 +1,13 @@
 // Reads and events: what every walk and every phase is made of. Stands for the readers of `PktStrm` and the callbacks.
+ghost use mathlib.Core.Path.{_≡_};
 ghost use Prim.Native.Nat.{_+_, _-_, _≤_, _<_};
 ghost use mathlib.Core.List.{[], _∷_};
 ghost use lib.ListN.{length};
 ghost use Rattle.events.specs.Events.{ev};
 ghost use Rattle.reading.specs.Reading.{aLine, bytes};
-ghost use Rattle.rules.specs.Mail.{whole};
+ghost use Rattle.rules.specs.Mail.{whole, rest, lastLine};
 ghost use Rattle.rules.specs.Sessions.{limit};
-ghost use Rattle.reads.specs.Contracts.{Stopped, ReadIs, CleanIs, TwoIs, Notes};
+ghost use Rattle.reads.specs.Contracts.{Stopped, ReadIs, CleanIs, TwoIs, Notes, Begins};
 use events::BODY_STOP;
 use events::Encoding;
 use events::Event;
@@ -14,6 +15,7 @@ use events::Listed;
 use events::Log;
 use events::Outcome;
 use reading::Place;
+use rules::Mail;
 
 // A read: the place behind it, or how the session stops where the read began.
 pub enum Read {
@@ -143,5 +145,49 @@ pub fn hold(
     match note(table, log, kind, at, n, encoding) {
         Noted::Stopped(a) => Noted::Stopped(a),
         Noted::Written(next) => note(table, next, BODY_STOP, at + n, 0, Encoding::Unsaid),
+    }
+}
+
+// ---- mails
+
+// n less m, and 0 where m is more.
+pub fn less(n: usize, m: usize) -> usize
+    ensures { λ r. ⌜ r ≡ n - m ⌝ }
+{
+    if n < m {
+        return 0;
+    }
+    n - m
+}
+
+// What is left of the literal at a place: 0 once passed, and where there is none.
+pub fn literal_rest(mail: Mail, at: usize) -> u64
+    requires { ⌜ Begins mail at ⌝ }
+    ensures { λ r. ⌜ r ≡ rest mail at ⌝ }
+{
+    match mail {
+        Mail::Smtp => 0,
+        Mail::Pop3 => 0,
+        Mail::Imap(size, start) => {
+            let read = (at - start) as u64;
+            if size < read {
+                return 0;
+            }
+            size - read
+        }
+    }
+}
+
+// The line l ends the skipping behind a close, b being the outermost boundary.
+pub fn last_line(l: &[u8], b: &[u8], mail: Mail) -> bool
+    ensures { λ r. ⌜ r ≡ lastLine mail (now (b .entry)) (now (l .entry)) ⌝ }
+{
+    if fields::common::dash_bdry(l, b) {
+        return true;
+    }
+    match mail {
+        Mail::Smtp => reading::equals(l, b".\r\n"),
+        Mail::Pop3 => reading::equals(l, b".\r\n"),
+        Mail::Imap(_, _) => false,
     }
 }
