@@ -84,7 +84,7 @@ Firm (inContent m e b os from here) = AllLast (b ∷ os)
 Firm (inLiteral e from left) = Unit {0}
 
 -- what is so either way
-either : {A : Type 0} (P : A → Type 0) (b : Bool) {x y : A} → P x → P y → P (cond b x y)
+pub either : {A : Type 0} (P : A → Type 0) (b : Bool) {x y : A} → P x → P y → P (cond b x y)
 either P true h g = h
 either P false h g = g
 

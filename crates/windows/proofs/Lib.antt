@@ -7,3 +7,5 @@ pub mod Bridge
 pub mod Firm
 pub mod Runs
 pub mod Cut
+pub mod Done
+pub mod Taken

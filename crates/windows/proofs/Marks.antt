@@ -221,7 +221,7 @@ module _ (mark : Mark) (here : Bool) (s : List ℕ) where
         rw b (parted-onto s l r (d .made) (firstEnd g 0 (length r)))
 
 -- ---- by lines
-got-none : {p r : List ℕ} → short ≡ got p r → ⊥
+pub got-none : {p r : List ℕ} → short ≡ got p r → ⊥
 got-none h = let z : _≡_ {A = ℕ} 0 1 = cc in omega arith
 
 got-same : {p r q t : List ℕ} → got p r ≡ got q t → (p ≡ q) × (r ≡ t)

@@ -88,3 +88,25 @@ module _ (State : Type 0) (read : State → List ℕ → Got) (react : State →
 
   pub all-bytes : (st : State) (at : ℕ) (s : List ℕ) → Run st at s .at + length (Run st at s .rest) ≡ at + length s
   all-bytes st at s = let l = left st at s in omega (arith, l .on, l .within, ap length (l .is), length-drop (Run st at s .at - at) s)
+
+  -- ---- a run stops where its read is short
+  stops-turn : (st : State) (at : ℕ) (s : List ℕ) (g : Got) → read st s ≡ g
+      → ((su : State) (to : ℕ) (r : List ℕ) → length r < length s → read (Run su to r .state) (Run su to r .rest) ≡ short)
+      → read (Run st at s .state) (Run st at s .rest) ≡ short
+  stops-turn st at s short e ih = rw (run-short st at s e) e
+  stops-turn st at s (got p r) e ih = rw (run-got st at s p r e) (ih (react st at p .next) (at + length p) r (shorter st s p r e))
+
+  pub run-stops : (st : State) (at : ℕ) (s : List ℕ) → read (Run st at s .state) (Run st at s .rest) ≡ short
+  run-stops = by-turns (λ st at s. read (Run st at s .state) (Run st at s .rest) ≡ short) stops-turn
+
+  -- ---- what each piece keeps of a state and its position, a run keeps
+  module _ (P : State → ℕ → Type 0) (kept : (st : State) (at : ℕ) (s p r : List ℕ) → read st s ≡ got p r → P st at → P (react st at p .next) (at + length p)) where
+    keeps-turn : (st : State) (at : ℕ) (s : List ℕ) (g : Got) → read st s ≡ g
+        → ((su : State) (to : ℕ) (r : List ℕ) → length r < length s → P su to → P (Run su to r .state) (Run su to r .at))
+        → P st at → P (Run st at s .state) (Run st at s .at)
+    keeps-turn st at s short e ih h = rw (run-short st at s e) h
+    keeps-turn st at s (got p r) e ih h =
+        rw (run-got st at s p r e) (ih (react st at p .next) (at + length p) r (shorter st s p r e) (kept st at s p r e h))
+
+    pub run-keeps : (st : State) (at : ℕ) (s : List ℕ) → P st at → P (Run st at s .state) (Run st at s .at)
+    run-keeps = by-turns (λ st at s. P st at → P (Run st at s .state) (Run st at s .at)) keeps-turn
