@@ -9,3 +9,4 @@ pub mod Runs
 pub mod Cut
 pub mod Done
 pub mod Taken
+pub mod Keeping
