@@ -266,9 +266,9 @@ never-ten : (st : State) (at : ℕ) (p : List ℕ) → fetch (need st) p ≡ got
 never-ten st at p g = react-pays st at p g .fine
 
 -- ---- a run: what holds of each reaction adds up
-record Bounded (st : State) (s : List ℕ) (o : Ran State) : Type 0 where
-  few : length (o .events) ≤ length s + credit st
-  fine : isTen (resultOf st) ≡ false → isTen (resultOf (o .state)) ≡ false
+pub record Bounded (st : State) (s : List ℕ) (o : Ran State) : Type 0 where
+  pub few : length (o .events) ≤ length s + credit st
+  pub fine : isTen (resultOf st) ≡ false → isTen (resultOf (o .state)) ≡ false
 
 turn-bounded : (k : State → ℕ → List ℕ → Ran State) (st : State) (at : ℕ) (s : List ℕ) (g : Got) → fetch (need st) s ≡ g
     → ((su : State) (to : ℕ) (r : List ℕ) → Bounded su r (k su to r)) → Bounded st s (turn State fetches react k st at s g)
@@ -287,7 +287,7 @@ unfolding go
 go-bounded zero st at s = record { few = omega arith; fine = λ h. h }
 go-bounded (suc k) st at s = turn-bounded (go State fetches react k) st at s (fetch (need st) s) refl (go-bounded k)
 
-run-bounded : (st : State) (at : ℕ) (s : List ℕ) → Bounded st s (session st at s)
+pub run-bounded : (st : State) (at : ℕ) (s : List ℕ) → Bounded st s (session st at s)
 unfolding run
 run-bounded st at s = go-bounded (length s) st at s
 

@@ -27,14 +27,14 @@ use Rattle.windows.proofs.Runs as runs
 use Rattle.windows.specs.Stands.{Stand, fresh, inPreamble, inContent, inLiteral, enter, enters, takes, does, pieces, standResult, standPlace}
 use Rattle.windows.specs.Windows.{Record, begins, said, over, keeps, Shown, refused, landed, lands, window, taken, Tap, tapped, shows, showsAll, lastly}
 
-firm : runs.Holds Stand takes does Firm
+pub firm : runs.Holds Stand takes does Firm
 firm = record { holds = takes-holds; keeps = does-firm }
 
 -- what a session that is taken in pieces comes to, on a table from its front
 unfoldable pub settled : List ℕ → Ran Stand → Final
 settled t o = finish (pour (o .events) t noEvents) (standResult (o .state)) (standPlace (o .state) (o .at))
 
-abbrev onward : Ran Stand → List ℕ → Ran Stand
+abbrev pub onward : Ran Stand → List ℕ → Ran Stand
 onward = runs.onward Stand takes does taking
 
 -- ---- an end
@@ -56,7 +56,7 @@ over-place (inLiteral e from n) a b h = refl
 
 module _ (t : List ℕ) where
   -- nothing more comes of a run
-  data Frozen (o : Ran Stand) : Type 0 where
+  pub data Frozen (o : Ran Stand) : Type 0 where
     ended : over (o .state) ≡ true → Frozen o
     filled : (u : List ℕ) (q : ℕ) (log : Log) → pour (o .events) t noEvents ≡ full u q log → Frozen o
 
@@ -73,18 +73,18 @@ module _ (t : List ℕ) where
       rw (e, h)
 
   -- ---- a tap stands where the run on all the bytes shown so far stands
-  data Stands (o : Ran Stand) (x : Tap) : Type 0 where
+  pub data Stands (o : Ran Stand) (x : Tap) : Type 0 where
     live : (u : List ℕ) (log : Log) → over (o .state) ≡ false → pour (o .events) t noEvents ≡ all u log
         → x ≡ record { session = record { stand = o .state; at = o .at; log = log }; table = u; untaken = o .rest } → Stands o x
     dead : over (x .session .stand) ≡ true → lastly x ≡ settled t o → Frozen o → Stands o x
 
-  stands-says : (o : Ran Stand) (x : Tap) → Stands o x → lastly x ≡ settled t o
+  pub stands-says : (o : Ran Stand) (x : Tap) → Stands o x → lastly x ≡ settled t o
   unfolding said settled finish
   stands-says o x (live u log h p e) = rw (e, p)
   stands-says o x (dead h e f) = e
 
   -- ---- one window
-  dead-on : (x : Tap) (w : List ℕ) → over (x .session .stand) ≡ true → (shows x w .session ≡ x .session) × (shows x w .table ≡ x .table)
+  pub dead-on : (x : Tap) (w : List ℕ) → over (x .session .stand) ≡ true → (shows x w .session ≡ x .session) × (shows x w .table ≡ x .table)
   unfolding shows window
   dead-on x w h = (rw h, rw h)
 
@@ -123,13 +123,14 @@ module _ (t : List ℕ) where
     by-pour (all v n) q = by-end v n q (over (o2 .state)) refl
     by-pour (full v a n) q = dead (rw (read-is, q)) (rw (read-is, poured-on, q)) (filled v a n (poured-on ∙ q))
 
-  stands-on : (o : Ran Stand) (x : Tap) (w : List ℕ) → o .at + length (o .rest) + length w ≤ limit → Stands o x → Stands (onward o w) (shows x w)
+  pub stands-dead : (o : Ran Stand) (x : Tap) (w : List ℕ) → over (x .session .stand) ≡ true → lastly x ≡ settled t o → Frozen o → Stands (onward o w) (shows x w)
   unfolding said
+  stands-dead o x w h e f = let d = dead-on x w h in dead (rw (d .0) h) (rw (d .0, d .1) (e ∙ sym (frozen-same o w f))) (frozen-on o w f)
+
+  pub stands-on : (o : Ran Stand) (x : Tap) (w : List ℕ) → o .at + length (o .rest) + length w ≤ limit → Stands o x → Stands (onward o w) (shows x w)
   stands-on o x w g (live u log h p e) =
       rw e (by-pour o w u log h p (omega (arith, length-append (o .rest) w)) (pour (pieces (o .state) (o .at) (o .rest ++ w) .events) u log) refl)
-  stands-on o x w g (dead h e f) =
-      let d = dead-on x w h in
-      dead (rw (d .0) h) (rw (d .0, d .1) (e ∙ sym (frozen-same o w f))) (frozen-on o w f)
+  stands-on o x w g (dead h e f) = stands-dead o x w h e f
 
   -- ---- windows one after another
   stands-all : (f : Stand) → Firm f → (ws : List (List ℕ)) (s : List ℕ) (x : Tap) → length s + length (flatten ws) ≤ limit → Stands (pieces f 0 s) x
@@ -172,7 +173,7 @@ entries SmtpServer = record { reads-on = refl; firm = tt }
 entries Pop3Server = record { reads-on = refl; firm = tt }
 entries ImapClient = record { reads-on = refl; firm = tt }
 
-begun : (start : Phase) (t : List ℕ) → over (enters start 0) ≡ false → Stands t (pieces (enters start 0) 0 []) (tapped start t)
+pub begun : (start : Phase) (t : List ℕ) → over (enters start 0) ≡ false → Stands t (pieces (enters start 0) 0 []) (tapped start t)
 unfolding run go pour
 begun start t h = live t noEvents h refl refl
 

@@ -10,3 +10,5 @@ pub mod Cut
 pub mod Done
 pub mod Taken
 pub mod Keeping
+pub mod Beyond
+pub mod Counting
