@@ -111,7 +111,7 @@ still-command : (at : ℕ) (l : List ℕ) → still (onCommand at l .events) ≡
 unfolding onCommand still secret
 still-command at l = either (isAppend (clean l)) (then [] (Phases.offered (appendSize (clean l)))) (then [] Phases.command) refl refl
 
-still-content : (e : Encoding) (at n : ℕ) → still (whole partBody e at n) ≡ true
+pub still-content : (e : Encoding) (at n : ℕ) → still (whole partBody e at n) ≡ true
 unfolding whole held still secret
 still-content e at zero = refl
 still-content e at (suc n) = refl

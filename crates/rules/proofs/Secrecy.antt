@@ -46,20 +46,20 @@ run-lies zero st at s h = lies-turn st at s (fetch (need st) s) refl (λ su to r
 run-lies (suc n) st at s h = lies-turn st at s (fetch (need st) s) refl (λ su to r g. run-lies n su to r (omega arith))
 
 -- two runs that cannot be told apart by what they list and come to
-record Alike (a b : Ran State) : Type 0 where
-  events : a .events ≡ b .events
-  state : a .state ≡ b .state
-  at : a .at ≡ b .at
+pub record Alike {S : Type 0} (a b : Ran S) : Type 0 where
+  pub events : a .events ≡ b .events
+  pub state : a .state ≡ b .state
+  pub at : a .at ≡ b .at
 
 alike-settle : (t : List ℕ) (log : Log) (a b : Ran State) → Alike a b → settle t log a ≡ settle t log b
 unfolding settle
 alike-settle t log a b w = rw (w .events, w .state, w .at) refl
 
-alike-before : (es : List Event) (a b : Ran State) → Alike a b → Alike (before es a) (before es b)
+pub alike-before : {S : Type 0} (es : List Event) (a b : Ran S) → Alike a b → Alike (before es a) (before es b)
 alike-before es a b w = record { events = ap (λ (fs : List Event). es ++ fs) (w .events); state = w .state; at = w .at }
 
 -- a piece that the beginning holds, and what is left of the beginning
-taken : (k : ℕ) (p r : List ℕ) → length p ≤ k → take k (p ++ r) ≡ p ++ take (k - length p) r
+pub taken : (k : ℕ) (p r : List ℕ) → length p ≤ k → take k (p ++ r) ≡ p ++ take (k - length p) r
 taken k [] r h = let z : k - 0 ≡ k = omega arith in rw z refl
 taken zero (x ∷ p) r h = absurd (omega arith)
 taken (suc k) (x ∷ p) r h = let z : suc k - suc (length p) ≡ k - length p = omega arith in rw z (ap (λ (l : List ℕ). x ∷ l) (taken k p r (omega arith)))
@@ -157,7 +157,7 @@ may-more zero (e ∷ es) p b c h = or-more (inside e p && mayTurn (e .kind) b c)
     (or-same (inside e p && mayTurn (e .kind) b c) (eqb b c) h)
 may-more (suc n) (e ∷ es) p b c h = or-more (inside e p && mayTurn (e .kind) b c) (may (take n es) p b c) (may es p b c) (λ g. may-more n es p b c g) h
 
-replaced-more : (n : ℕ) (es : List Event) (at : ℕ) (s u : List ℕ) → Replaced (take n es) at s u → Replaced es at s u
+pub replaced-more : (n : ℕ) (es : List Event) (at : ℕ) (s u : List ℕ) → Replaced (take n es) at s u → Replaced es at s u
 replaced-more n es at s u w = record { long = w .long; bytes = λ p h. may-more n es (at + p) (getD s p 0) (getD u p 0) (w .bytes p h) }
 
 -- an answer does not change where bytes inside its own user, password and body-line events are replaced, neither CR nor LF being replaced or brought in, nor a dot brought in,

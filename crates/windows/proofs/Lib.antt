@@ -12,3 +12,4 @@ pub mod Taken
 pub mod Keeping
 pub mod Beyond
 pub mod Counting
+pub mod Blindly

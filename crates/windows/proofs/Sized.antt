@@ -17,7 +17,7 @@ pub sized-one : (x : ℕ) (s : List ℕ) → fetch (bytes 0) (x ∷ s) ≡ got (
 unfolding fetch reach parted
 sized-one x s = rw (lt-ltb 0 (suc (length s)) (let z : 0 < suc (length s) = omega arith in z))
 
-sized-none : (n : ℕ) → fetch (bytes n) [] ≡ short
+pub sized-none : (n : ℕ) → fetch (bytes n) [] ≡ short
 unfolding fetch reach parted
 sized-none n = rw (le-ltb n 0 (let z : 0 ≤ n = omega arith in z))
 
