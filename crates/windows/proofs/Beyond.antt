@@ -59,7 +59,7 @@ module _ (t : List ℕ) (f : Stand) (sound : Firm f) where
         (λ l. past (ltb-true limit (o .at + length (o .rest ++ w)) l))
         (λ l. before (ltb-false limit (o .at + length (o .rest ++ w)) l))
 
-  reached-on : (s : List ℕ) (x : Tap) (w : List ℕ) → Reached s x → Reached (s ++ w) (shows x w)
+  pub reached-on : (s : List ℕ) (x : Tap) (w : List ℕ) → Reached s x → Reached (s ++ w) (shows x w)
   unfolding said
   reached-on s x w (within (live u log h p e)) = rw e (live-on s w u log h p)
   reached-on s x w (within (dead h e z)) = let j = stands-dead t (pieces f 0 s) x w h e z in within (rw (on-all f sound s w) at j)

@@ -7,7 +7,7 @@ use Prim.Native.Nat.{ℕ, zero, suc, _+_, _-_, _≤_, _<_}
 use native.Mathlib.Omega.{arith}
 use lib.Dec.{eqb, ltb}
 use lib.ListN.{length, take, drop, take-append-drop, length-append, length-take}
-use lib.Seq.{take-take, length-take-le}
+use lib.Seq.{take-take, take-at, length-take-le}
 use borrow.Author.Tests.{ne-eqb, ltb-true, ltb-false}
 use Rattle.events.specs.declared.Encoding.{Encoding}
 use Rattle.events.specs.declared.Event.{Event}
@@ -72,9 +72,7 @@ sized-long n s p r f = let e = got-reach (bytes n) s p r f in got-length (bytes 
 
 -- a beginning of a beginning
 front : (k : ℕ) (p r : List ℕ) → k ≤ length p → take k (p ++ r) ≡ take k p
-front zero p r h = refl
-front (suc k) [] r h = absurd (omega arith)
-front (suc k) (x ∷ p) r h = ap (λ (l : List ℕ). x ∷ l) (front k p r (omega arith))
+front k p r h = sym (take-take k (length p) (p ++ r) h) ∙ ap (take k) (take-at p r (length p) refl)
 
 -- ---- how a read is taken: at once; or in pieces, and allows no change; or byte by byte
 data Manner (st : State) (at : ℕ) : Type 0 where

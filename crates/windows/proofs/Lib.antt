@@ -13,3 +13,4 @@ pub mod Keeping
 pub mod Beyond
 pub mod Counting
 pub mod Blindly
+pub mod Secrecy
