@@ -1,6 +1,6 @@
 -- Any list of windows, also past the limit: a tap stands where the bytes shown so far stand, or where those stood that were shown before the limit.
 -- Assumes nothing.
-use mathlib.Core.Path.{_≡_, refl, sym, ap, _∙_}
+use mathlib.Core.Path.{_≡_, refl, ap, _∙_}
 use mathlib.Core.Bool.{true, false}
 use mathlib.Core.List.{List, [], _∷_, _++_, append-nil, append-assoc, flatten}
 use Prim.Native.Nat.{ℕ, _+_, _≤_, _<_}
@@ -8,7 +8,7 @@ use native.Mathlib.Omega.{arith}
 use lib.Dec.{ltb}
 use lib.ListN.{length, length-append}
 use borrow.Author.Tests.{ltb-true, ltb-false}
-use Rattle.events.specs.Table.{Final, final, noEvents, all, pour}
+use Rattle.events.specs.Table.{final, noEvents, all, pour}
 use Rattle.events.specs.declared.Log.{Log}
 use Rattle.events.specs.declared.Outcome.the-variants.{TooLong}
 use Rattle.reading.proofs.Places.{by-test}

@@ -6,7 +6,7 @@ use mathlib.Core.List.{List, [], _∷_, _++_}
 use Prim.Native.Nat.{ℕ, zero, suc, _+_, _-_, _≤_, _<_}
 use native.Mathlib.Omega.{arith}
 use lib.Dec.{eqb, ltb}
-use lib.ListN.{length, take, drop, take-append-drop, length-append, length-take}
+use lib.ListN.{length, take, drop, take-append-drop, length-append}
 use lib.Seq.{take-take, take-at, length-take-le}
 use borrow.Author.Tests.{ne-eqb, ltb-true, ltb-false}
 use Rattle.events.specs.declared.Encoding.{Encoding}
@@ -22,7 +22,7 @@ use Rattle.rules.proofs.Changes.{AllLie, changed-piece, changed-rest, still, un
 use Rattle.rules.proofs.Machines.{session-shorter}
 use Rattle.rules.proofs.Secrecy.{Alike, alike-before, run-lies}
 use Rattle.rules.proofs.Secrecy as secrecy
-use Rattle.rules.specs.Machine.{Reaction, Ran, stay, before}
+use Rattle.rules.specs.Machine.{Ran, stay, before}
 use Rattle.rules.specs.Mail.{onPreamble, onContent, contentLength}
 use Rattle.rules.specs.Phases.{Phase, State, reads, ends, need, wants}
 use Rattle.rules.specs.Phases as phase
@@ -31,7 +31,7 @@ use Rattle.rules.specs.Sessions.{reacts, react, session}
 use Rattle.windows.proofs.Bridge.{Told, told, toldStand, Agrees, alike, longer, bridge}
 use Rattle.windows.proofs.Courses.{Waits, Follows, Course, follows, too-long, course, pieces-short, pieces-got}
 use Rattle.windows.proofs.Sized.{sized-one, sized-none}
-use Rattle.windows.specs.Stands.{Stand, fresh, inPreamble, inContent, inLiteral, clipped, enters, enter, takes, does, pieces}
+use Rattle.windows.specs.Stands.{Stand, fresh, inLiteral, clipped, enters, enter, takes, does, pieces}
 
 -- ---- the events of a run lie between where it begins and its end
 lie-first : (lo hi : ℕ) (es fs : List Event) → AllLie lo hi (es ++ fs) → AllLie lo hi es

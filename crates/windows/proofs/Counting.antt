@@ -1,6 +1,6 @@
 -- Events never exceed bytes, by windows too: any list of windows, also past the limit, lists at most as many events as bytes were shown, so that as many slots suffice.
 -- Assumes nothing.
-use mathlib.Core.Path.{_≡_, refl, sym, ap, _∙_}
+use mathlib.Core.Path.{_≡_, refl, ap}
 use mathlib.Core.Bool.{false}
 use mathlib.Core.List.{List, flatten}
 use Prim.Native.Nat.{ℕ, _+_, _≤_}
@@ -9,19 +9,18 @@ use lib.ListN.{length, length-append}
 use borrow.Author.Tests.{eqb-false}
 use Rattle.events.proofs.Laws.{pour-count, enough-plain}
 use Rattle.events.specs.Events.{resultNumber}
-use Rattle.events.specs.Table.{Final, noEvents, all, slots, pour, finish}
+use Rattle.events.specs.Table.{noEvents, all, slots, pour, finish}
 use Rattle.events.specs.declared.Event.{Event}
 use Rattle.events.specs.declared.Log.{Log}
-use Rattle.events.specs.declared.Outcome.{Outcome}
 use Rattle.events.specs.declared.Outcome.the-variants.{Incomplete}
-use Rattle.rules.proofs.Counting.{mailCredit, phaseCredit, credit, isTen, events-bound, run-bounded}
+use Rattle.rules.proofs.Counting.{phaseCredit, credit, isTen, events-bound, run-bounded}
 use Rattle.rules.specs.Machine.{Ran}
-use Rattle.rules.specs.Phases.{State, reads}
-use Rattle.rules.specs.Sessions.{session, startOf, resultOf}
+use Rattle.rules.specs.Phases.{reads}
+use Rattle.rules.specs.Sessions.{startOf, resultOf}
 use Rattle.rules.specs.declared.Entry.{Entry}
 use Rattle.rules.specs.declared.Entry.the-variants.{SmtpClient, SmtpServer, Pop3Server, ImapClient}
 use Rattle.windows.proofs.Beyond.{Reached, within, beyond, reached}
-use Rattle.windows.proofs.Bridge.{Told, told, toldStand, Agrees, alike, longer, bridge}
+use Rattle.windows.proofs.Bridge.{Told, Agrees, alike, longer, bridge}
 use Rattle.windows.proofs.Cut.{settled, stands-says, entries}
 use Rattle.windows.specs.Stands.{Stand, enter, enters, pieces, standResult, standPlace}
 use Rattle.windows.specs.Windows.{Tap, tapped, showsAll, lastly}

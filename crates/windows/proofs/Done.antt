@@ -1,7 +1,6 @@
 -- Where document 01 is done, it is done behind the piece that it read last; taken in pieces too.
 -- Assumes nothing.
 use mathlib.Core.Path.{_≡_, refl}
-use mathlib.Core.Bool.{cond}
 use mathlib.Core.List.{List, [], _∷_}
 use mathlib.Core.Option.{Option, none, some}
 use Prim.Native.Nat.{ℕ, zero, suc, _+_, _-_}
@@ -19,7 +18,7 @@ use Rattle.fields.specs.declared.smtp.Address.the-variants.{Given, Missing}
 use Rattle.fields.specs.declared.smtp.Second.{Second}
 use Rattle.fields.specs.declared.smtp.Second.the-variants as is
 use Rattle.reading.specs.Bytes.{startsWith, same}
-use Rattle.reading.specs.Reading.{crlf, clean, dash, got, short, reach, parted, fetch}
+use Rattle.reading.specs.Reading.{crlf, clean, dash, got, reach, parted, fetch}
 use Rattle.reading.specs.Text.{text}
 use Rattle.rules.specs.Imap.{onCommand, onOffered, onClosing}
 use Rattle.rules.specs.Machine.{Reaction}

@@ -13,8 +13,8 @@ use Rattle.events.specs.Table.{Final, Poured, all, full, slots, pour, finish}
 use Rattle.events.specs.declared.Outcome.the-variants.{Incomplete}
 use Rattle.reading.proofs.Places.{by-test}
 use Rattle.rules.specs.Machine.{Ran}
-use Rattle.rules.specs.Sessions.{limit, resultOf, placeOf}
-use Rattle.windows.specs.Stands.{Stand, pieces, standResult, standPlace}
+use Rattle.rules.specs.Sessions.{limit}
+use Rattle.windows.specs.Stands.{Stand, pieces}
 use Rattle.windows.specs.Windows.{Record, said, over, Shown, refused, landed, lands, window, Tap, shows, showsAll, lastly}
 
 -- ---- what is said after a window has the table and the count of what was poured, whatever the result

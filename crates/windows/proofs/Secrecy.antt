@@ -1,14 +1,13 @@
 -- Demand 3 by windows: bytes replaced where document 01 permits it change no answer to any window, runs cut alike being compared; past the limit and with 12 too.
 -- Assumes nothing.
 use mathlib.Core.Path.{_≡_, refl, sym, ap, _∙_}
-use mathlib.Core.Bool.{Bool, true, false, cond}
+use mathlib.Core.Bool.{false}
 use mathlib.Core.List.{List, [], _∷_, _++_, append-assoc, flatten}
 use Prim.Native.Nat.{ℕ, _+_}
 use native.Mathlib.Omega.{arith}
-use lib.Dec.{ltb}
 use lib.ListN.{length, take, drop, length-append}
 use lib.Seq.{take-at, drop-at}
-use Rattle.events.specs.Table.{Final, final, noEvents, Poured, all, full, pour, finish}
+use Rattle.events.specs.Table.{Final, Poured, all, full, pour, finish}
 use Rattle.events.specs.declared.Event.{Event}
 use Rattle.events.specs.declared.Log.{Log}
 use Rattle.events.specs.declared.Outcome.the-variants.{TooLong}
@@ -19,7 +18,7 @@ use Rattle.rules.proofs.Secrecy.{Alike, replaced-more}
 use Rattle.rules.specs.Machine.{Ran}
 use Rattle.rules.specs.Phases.{reads}
 use Rattle.rules.specs.Secrecy.{Replaced, eventsOf}
-use Rattle.rules.specs.Sessions.{limit, startOf}
+use Rattle.rules.specs.Sessions.{startOf}
 use Rattle.rules.specs.declared.Entry.{Entry}
 use Rattle.windows.proofs.Beyond.{Reached, within, beyond, on-all, reached-on, reached}
 use Rattle.windows.proofs.Blindly.{pieces-told}
@@ -29,7 +28,7 @@ use Rattle.windows.proofs.Firm.{Firm}
 use Rattle.windows.proofs.Runs as runs
 use Rattle.windows.proofs.Taken.{repeats}
 use Rattle.windows.specs.Stands.{Stand, enter, enters, takes, does, pieces, standResult, standPlace}
-use Rattle.windows.specs.Windows.{Record, said, over, keeps, Shown, landed, lands, window, taken, Tap, tapped, shows, showsAll, lastly}
+use Rattle.windows.specs.Windows.{Record, said, over, Shown, landed, lands, window, taken, Tap, tapped, shows, showsAll, lastly}
 
 -- ---- what the caller sees of windows one after another: of each what was said then, with the table, and how many bytes it took
 pub record Answered : Type 0 where

@@ -2,25 +2,25 @@
 -- finished line; done takes up to its place, a refusal nothing', and what is repeated, and the limit.
 -- Assumes nothing.
 use mathlib.Core.Path.{_≡_, refl, sym, ap, _∙_}
-use mathlib.Core.Bool.{Bool, true, false, cond, not, _||_}
+use mathlib.Core.Bool.{Bool, true, false, cond}
 use mathlib.Core.List.{List, [], _∷_}
-use Prim.Native.Nat.{ℕ, zero, suc, _+_, _-_, _≤_, _<_}
+use Prim.Native.Nat.{ℕ, _+_, _-_, _≤_, _<_}
 use native.Mathlib.Omega.{arith}
 use lib.Dec.{eqb, ltb}
 use lib.ListN.{length, drop}
 use borrow.Author.Tests.{eq-eqb, lt-ltb}
 use Rattle.events.specs.Events.{resultNumber}
-use Rattle.events.specs.Table.{Final, final, Poured, all, full, pour}
+use Rattle.events.specs.Table.{final, Poured, all, full, pour}
 use Rattle.events.specs.declared.Encoding.{Encoding}
 use Rattle.events.specs.declared.Log.{Log}
 use Rattle.events.specs.declared.Outcome.{Outcome}
 use Rattle.events.specs.declared.Outcome.the-variants.{TooLong, TableFull}
-use Rattle.reading.specs.Reading.{dash, aLine, bytes, Got, got, short, reach, parted, fetch}
+use Rattle.reading.specs.Reading.{dash, aLine, bytes, short, reach, parted, fetch}
 use Rattle.reading.specs.declared.Place.{Place}
 use Rattle.reading.specs.declared.Place.the-variants.{At, Nowhere}
 use Rattle.rules.proofs.Changes.{apart}
 use Rattle.rules.specs.Machine.{Ran}
-use Rattle.rules.specs.Phases.{Phase, State, reads, ends, need, wants}
+use Rattle.rules.specs.Phases.{Phase, reads, ends, need, wants}
 use Rattle.rules.specs.Sessions.{limit, resultOf, placeOf}
 use Rattle.rules.specs.declared.Mail.{Mail}
 use Rattle.windows.proofs.Courses.{taking}
@@ -138,6 +138,20 @@ module _ (r : Record) (t w : List ℕ) where
       by-keeps false = omega arith
 
       by-way : Came r t w → taken r g ≤ length w
+      by-way (again h e) = rw e (omega arith)
+      by-way (refuses u x p log n e) = rw e (omega arith)
+      by-way (is-read u log h e) = rw e (by-keeps (keeps (o .state)))
+
+  -- ---- the session's position moves by what is taken
+  pub moved : g .next .at ≡ r .at + taken r g
+  unfolding taken refused landed
+  moved = by-way came
+    where
+      by-keeps : (b : Bool) → cond b (o .at) (r .at) ≡ r .at + (cond b (o .at) (r .at) - r .at)
+      by-keeps true = omega (arith, runs.left Stand takes does taking (r .stand) (r .at) w .on)
+      by-keeps false = omega arith
+
+      by-way : Came r t w → g .next .at ≡ r .at + taken r g
       by-way (again h e) = rw e (omega arith)
       by-way (refuses u x p log n e) = rw e (omega arith)
       by-way (is-read u log h e) = rw e (by-keeps (keeps (o .state)))
