@@ -21,7 +21,7 @@ use Rattle.reading.specs.declared.Place.the-variants.{At, Nowhere}
 use Rattle.rules.specs.Mail.{hyphens, lastLine}
 use Rattle.rules.specs.declared.Mail.{Mail}
 use Rattle.rules.specs.declared.Mail.the-variants.{Smtp, Pop3, Imap}
-use Rattle.reads.specs.Contracts.{Ends, Stops, Cleaned, Pair, NoPair}
+use Rattle.reads.specs.Contracts.{Ends, Stops, Cleaned, Pair, NoPair, Begins}
 
 pub part-length : (s : List ℕ) (i j : ℕ) → j ≤ length s → length (part s i j) ≡ j - i
 part-length s i j h = omega (arith, length-take (j - i) (drop i s), length-drop i s)
@@ -103,3 +103,10 @@ unfolding lastLine
 last-dash Smtp o l h = rw h
 last-dash Pop3 o l h = rw h
 last-dash (Imap size start) o l h = rw h
+
+-- of other mails nothing is asked
+pub begun-smtp : {to : ℕ} → Begins Smtp to
+begun-smtp = record { is = λ size start q. absurd (let z : _≡_ {A = ℕ} 0 1 = cc in omega arith) }
+
+pub begun-pop3 : {to : ℕ} → Begins Pop3 to
+begun-pop3 = record { is = λ size start q. absurd (let z : _≡_ {A = ℕ} 0 1 = cc in omega arith) }
