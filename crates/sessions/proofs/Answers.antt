@@ -5,18 +5,20 @@ use mathlib.Core.List.{List}
 use Prim.Native.Nat.{ℕ, _≤_, _<_}
 use lib.ListN.{length}
 use borrow.Author.Tests.{lt-ltb, le-ltb}
-use Rattle.events.specs.Table.{Final, finalOf, noEvents}
-use Rattle.events.specs.declared.Answer.{Answer}
+use Rattle.events.specs.Table.{Final, noEvents}
 use Rattle.events.specs.declared.Outcome.the-variants.{TooLong}
+use Rattle.reads.specs.Contracts.{Stopped, finalAt}
+use Rattle.reads.specs.declared.Stop.{Stop}
 use Rattle.rules.specs.Phases.{Phase, reads}
 use Rattle.rules.specs.Sessions.{limit, session, settle, answer}
-use Rattle.sessions.specs.Walks.{Stopped}
 
 module _ (start : Phase) (s t : List ℕ) where
-  pub too-long : (a : Answer) → limit < length s → Stopped TooLong 0 noEvents a → finalOf t a ≡ answer start t s
+  -- more bytes than the limit
+  pub too-long : {a : Stop} → limit < length s → Stopped TooLong 0 noEvents a → finalAt t a ≡ answer start t s
   unfolding answer
-  too-long a h w = rw (lt-ltb limit (length s) h, w .result, w .place, w .count)
+  too-long h w = rw (lt-ltb limit (length s) h, w .result, w .place, w .log)
 
+  -- no more
   pub in-limit : (f : Final) → length s ≤ limit → f ≡ settle t noEvents (session (reads start) 0 s) → f ≡ answer start t s
   unfolding answer
   in-limit f h w = rw (le-ltb limit (length s) h) w

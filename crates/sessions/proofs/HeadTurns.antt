@@ -8,7 +8,6 @@ use native.Mathlib.Nat.{add-zero}
 use native.Mathlib.Omega.{arith}
 use lib.ListN.{length, drop}
 use Rattle.events.specs.Events.{ev, headerLine}
-use Rattle.events.specs.declared.Answer.{Answer}
 use Rattle.events.specs.declared.Encoding.the-variants.{Unsaid}
 use Rattle.events.specs.declared.Log.{Log}
 use Rattle.events.specs.declared.Outcome.{Outcome}
@@ -17,15 +16,16 @@ use Rattle.fields.specs.declared.common.Bdry.the-variants.{Unsupplied}
 use Rattle.fields.specs.declared.common.Scan.{Scan}
 use Rattle.reading.specs.Bytes.{same}
 use Rattle.reading.specs.Reading.{aLine, crlf}
+use Rattle.reads.specs.Contracts.{Ends, Stops, Stopped, Full, Written}
+use Rattle.reads.specs.declared.Stop.{Stop}
 use Rattle.rules.specs.Machine.{Reaction, before}
 use Rattle.rules.specs.Mail.{begun, onHead}
 use Rattle.rules.specs.Phases.{State, reads, head, wants, then}
 use Rattle.rules.specs.Sessions.{reacts, session, settle}
-use Rattle.sessions.specs.Walks.{Stopped, Ends, Stops, Notes, Headers}
+use Rattle.sessions.specs.Walks.{under, Headers}
 use Rattle.sessions.specs.declared.header.Headed.the-variants as headed
 use Rattle.rules.specs.declared.Mail.{Mail}
-use Rattle.sessions.specs.declared.reads.Noted.the-variants as noted
-use Rattle.sessions.proofs.Readings.{turn}
+use Rattle.sessions.proofs.Readings.{stays, turn, written-left, full-left}
 
 abbrev pub blank : Scan
 blank = record { encoding = Unsaid; seen = false; boundary = Unsupplied }
@@ -47,39 +47,36 @@ turned m k os to l b = cond b (begun m (k .encoding) (k .boundary) os to) (then 
 
 head-turn : (h : List ℕ) (base p e : ℕ) (b : Bool) (m : Mail) (k : Known) (os : List (List ℕ)) → Ends aLine h p e → same crlf (part h p e) ≡ b
     → session (reads (head m k os)) (base + p) (drop p h)
-    ≡ before (ev headerLine (base + p) (e - p) Unsaid ∷ turned m k os (base + e) (part h p e) b .events)
-    (session (turned m k os (base + e) (part h p e) b .next) (base + e) (drop e h))
+    ≡ before (ev headerLine (base + p) (e - p) Unsaid ∷ []) (under (turned m k os (base + e) (part h p e) b) (base + e) (drop e h))
 unfolding reacts onHead wants
 head-turn h base p e b m k os d q =
     let n : base + p + (e - p) ≡ base + e = omega (arith, d .on) in
     turn (head m k os) h p e (base + p) d ∙ rw (q, d .long, n)
 
 module _ {h t : List ℕ} {log : Log} {base : ℕ} {k : Scan} {p : ℕ} {n : Log} {u : List ℕ} (w : HeadAt h t log base k p n u) where
-  pub head-short : {o : Outcome} {a : Answer} → Stops aLine h p o → Stopped o (base + p) n a → Headers h t log base (headed.Stopped a) u
+  pub head-short : {o : Outcome} {a : Stop} → Stops aLine h p o → Stopped o (base + p) n a → Headers h t log base (headed.Stopped a) u
   unfolding wants
   head-short d c = record {
     moved = tt;
-    is = λ m os. rw (c .result, c .place, c .count) (d .is (head m (knownOf h k) os) refl (base + p) u n) ∙ w .is m os;
+    is = λ m os. rw (c .result, c .place, c .log) (stays (head m (knownOf h k) os) h p (base + p) d u n) ∙ w .is m os;
   }
 
   module _ {e : ℕ} (d : Ends aLine h p e) where
-    pub head-full : {a : Answer} {v : List ℕ} → Notes u n (ev headerLine (base + p) (e - p) Unsaid) (noted.Stopped a) v → Headers h t log base (headed.Stopped a) v
+    pub head-full : {a : Stop} {v : List ℕ} → Full u n (ev headerLine (base + p) (e - p) Unsaid ∷ []) a v → Headers h t log base (headed.Stopped a) v
     head-full c = record {
       moved = tt;
       is = λ m os.
-          c .is (turned m (knownOf h k) os (base + e) (part h p e) (same crlf (part h p e)) .events)
-          (session (turned m (knownOf h k) os (base + e) (part h p e) (same crlf (part h p e)) .next) (base + e) (drop e h))
+          full-left c (under (turned m (knownOf h k) os (base + e) (part h p e) (same crlf (part h p e))) (base + e) (drop e h))
           ∙ ap (settle u n) (sym (head-turn h base p e (same crlf (part h p e)) m (knownOf h k) os d refl))
           ∙ w .is m os;
     }
 
-    module _ {next : Log} {v : List ℕ} (c : Notes u n (ev headerLine (base + p) (e - p) Unsaid) (noted.Written next) v) where
+    module _ {next : Log} {v : List ℕ} (c : Written u n (ev headerLine (base + p) (e - p) Unsaid ∷ []) next v) where
       pub head-blank : same crlf (part h p e) ≡ true → Headers h t log base (headed.Went k e next) v
       head-blank q = record {
         moved = (omega (arith, d .on), d .within, w .inside);
         is = λ m os.
-            c .is (begun m (k .encoding) (bdryBytes h (k .boundary)) os (base + e) .events)
-            (session (begun m (k .encoding) (bdryBytes h (k .boundary)) os (base + e) .next) (base + e) (drop e h))
+            written-left c (under (begun m (k .encoding) (bdryBytes h (k .boundary)) os (base + e)) (base + e) (drop e h))
             ∙ ap (settle u n) (sym (head-turn h base p e true m (knownOf h k) os d q))
             ∙ w .is m os;
       }
@@ -92,7 +89,7 @@ module _ {h t : List ℕ} {log : Log} {base : ℕ} {k : Scan} {p : ℕ} {n : Log
         long = l ∙ w .long;
         is = λ m os.
             ap (λ (x : Known). settle v next (session (reads (head m x os)) (base + e) (drop e h))) (y .is)
-            ∙ c .is [] (session (reads (head m (scanned (knownOf h k) (part h p e)) os)) (base + e) (drop e h))
+            ∙ written-left c (session (reads (head m (scanned (knownOf h k) (part h p e)) os)) (base + e) (drop e h))
             ∙ ap (settle u n) (sym (head-turn h base p e false m (knownOf h k) os d q))
             ∙ w .is m os;
       }

@@ -1,7 +1,6 @@
 pub mod Readings
 pub mod Steps
 pub mod Lines
-pub mod Pairs
 pub mod MailTurns
 pub mod HeadTurns
 pub mod Parting

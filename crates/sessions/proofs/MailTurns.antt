@@ -8,7 +8,6 @@ use native.Mathlib.Omega.{arith}
 use lib.ListN.{length}
 use borrow.Author.Tests.{lt-ltb, le-ltb}
 use Rattle.events.specs.Events.{ev, bodyStart, bodyLine, bodyStop, sizedBody, partBody}
-use Rattle.events.specs.declared.Answer.{Answer}
 use Rattle.events.specs.declared.Encoding.{Encoding}
 use Rattle.events.specs.declared.Encoding.the-variants.{Unsaid}
 use Rattle.events.specs.declared.Log.{Log}
@@ -16,18 +15,19 @@ use Rattle.events.specs.declared.Outcome.the-variants.{BadDelimiter}
 use Rattle.fields.specs.Common.{part, unknown, dashBdry}
 use Rattle.reading.specs.Bytes.{startsWith, same}
 use Rattle.reading.specs.Reading.{Need, crlf, delimiter}
+use Rattle.reads.specs.Contracts.{Ends, Pair, NoPair, Stopped, Full, Written}
+use Rattle.reads.specs.declared.Stop.{Stop}
 use Rattle.rules.specs.Machine.{Reaction}
-use Rattle.rules.specs.Mail.{dotLine, hyphens, afterMail, rest, literalBody, held, whole, contentLength, outermost, byRest, skip, lastLine, popped, onText, onLiteral}
+use Rattle.rules.specs.Mail.{dotLine, hyphens, afterMail, rest, literalBody, whole, contentLength, outermost, byRest, skip, lastLine, popped, onText, onLiteral}
 use Rattle.rules.specs.Mail.{onPreamble, onOpened, onContent, onBetween, onSkipping, onResting}
 use Rattle.rules.specs.Phases.{Phase, State, reads, wants, then, closing, head, text, literal, preamble, opened, content, between, skipping, resting}
 use Rattle.rules.specs.Sessions.{reacts}
-use Rattle.sessions.specs.Walks.{Ends, Stopped, Pair, NoPair, Notes, goes, Walks, piece, Lies, Begun}
-use Rattle.sessions.specs.declared.reads.Boundary.{Boundary}
+use Rattle.sessions.specs.Walks.{goes, Walks, piece, Lies, Begun}
+use Rattle.sessions.specs.declared.walks.Boundary.{Boundary}
 use Rattle.rules.specs.declared.Mail.{Mail}
 use Rattle.rules.specs.declared.Mail.the-variants.{Smtp, Pop3, Imap}
-use Rattle.sessions.specs.declared.reads.Noted.the-variants as noted
-use Rattle.sessions.specs.declared.reads.Walk.{Walk}
-use Rattle.sessions.specs.declared.reads.Walk.the-variants as walk
+use Rattle.sessions.specs.declared.walks.Walk.{Walk}
+use Rattle.sessions.specs.declared.walks.Walk.the-variants as walk
 use Rattle.sessions.proofs.Readings.{piece-length}
 use Rattle.sessions.proofs.Steps as steps
 
@@ -88,7 +88,7 @@ module _ {s t : List ℕ} {log : Log} {at : ℕ} (m : Mail) (b : List ℕ) (os :
   unfolding reacts onOpened same startsWith wants
   opened-crlf p = steps.read (opened m b os) (p .ends) (rw (p .is) (steps.here (at + 2) (p .ends .within)))
 
-  module _ {to : ℕ → State} {a : Answer} where
+  module _ {to : ℕ → State} {a : Stop} where
     pub opened-hyphens : Pair s at hyphens → Stopped BadDelimiter at log a → Walks s t log at (then [] (opened m b os)) to (walk.Stopped a) t
     unfolding reacts onOpened same startsWith wants
     opened-hyphens p w = steps.read (opened m b os) (p .ends) (rw (p .is) (steps.stop w))
@@ -106,46 +106,27 @@ module _ {s t : List ℕ} {log : Log} {at : ℕ} (m : Mail) (b : List ℕ) (os :
   unfolding reacts onBetween same startsWith wants
   between-hyphens p = steps.read (between m b os) (p .ends) (rw (p .is) (steps.here (at + 2) (p .ends .within)))
 
-  pub between-other : {to : ℕ → State} {a : Answer} → NoPair s at → Stopped BadDelimiter at log a → Walks s t log at (then [] (between m b os)) to (walk.Stopped a) t
+  pub between-other : {to : ℕ → State} {a : Stop} → NoPair s at → Stopped BadDelimiter at log a → Walks s t log at (then [] (between m b os)) to (walk.Stopped a) t
   unfolding reacts onBetween wants
   between-other p w = steps.read (between m b os) (p .ends) (rw (p .no-crlf, p .no-hyphens) (steps.stop w))
-
--- ---- bodies at once
-pub whole-none : (kind : ℕ) (c : Encoding) (at end : ℕ) → at ≡ end → whole kind c at (end - at) ≡ ev bodyStop end 0 Unsaid ∷ []
-unfolding whole held
-whole-none kind c at end h =
-    let n : end - at ≡ 0 = omega arith in
-    let k : at + 0 ≡ end = omega arith in
-    rw (n, k)
-
-held-some : (kind : ℕ) (c : Encoding) (at n : ℕ) → 0 < n → held kind c at n ≡ ev kind at n c ∷ []
-unfolding held
-held-some kind c at zero h = absurd (omega arith)
-held-some kind c at (suc n) h = refl
-
-pub whole-some : (kind : ℕ) (c : Encoding) (at end : ℕ) → at ≤ end → (at ≡ end → ⊥) → whole kind c at (end - at) ≡ ev kind at (end - at) c ∷ ev bodyStop end 0 Unsaid ∷ []
-unfolding whole
-whole-some kind c at end h n =
-    let k : at + (end - at) ≡ end = omega arith in
-    rw (held-some kind c at (end - at) (omega arith), k)
 
 -- ---- a literal's body: its start, then what is left of the literal
 module _ {s t : List ℕ} {log : Log} {to : ℕ → State} {at : ℕ} {u : List ℕ} (c : Encoding) where
   -- the start finds no slot
-  pub literal-full : {a : Answer} (n : ℕ) → Notes t log (ev bodyStart at 0 Unsaid) (noted.Stopped a) u → Walks s t log at (literalBody c at n) to (walk.Stopped a) u
+  pub literal-full : {a : Stop} (n : ℕ) → Full t log (ev bodyStart at 0 Unsaid ∷ []) a u → Walks s t log at (literalBody c at n) to (walk.Stopped a) u
   unfolding literalBody
   literal-full zero p = steps.note-stop (ev bodyStop at 0 Unsaid ∷ []) (reads closing) p
   literal-full (suc n) p = steps.note-stop [] (reads (literal c n)) p
 
   module _ {next : Log} {r : Walk} {v : List ℕ} where
     -- nothing is left: its stop, and the literal is closed
-    pub literal-none : (n : ℕ) → n ≡ 0 → Notes t log (ev bodyStart at 0 Unsaid) (noted.Written next) u
+    pub literal-none : (n : ℕ) → n ≡ 0 → Written t log (ev bodyStart at 0 Unsaid ∷ []) next u
         → Walks s u next at (then (ev bodyStop at 0 Unsaid ∷ []) closing) to r v → Walks s t log at (literalBody c at n) to r v
     unfolding literalBody
     literal-none n h p w = rw h (steps.note (ev bodyStop at 0 Unsaid ∷ []) (reads closing) p w)
 
     -- something is: so many bytes are asked for
-    pub literal-some : (n : ℕ) → 0 < n → Notes t log (ev bodyStart at 0 Unsaid) (noted.Written next) u
+    pub literal-some : (n : ℕ) → 0 < n → Written t log (ev bodyStart at 0 Unsaid ∷ []) next u
         → Walks s u next at (then [] (literal c (n - 1))) to r v → Walks s t log at (literalBody c at n) to r v
     unfolding literalBody
     literal-some zero h p w = absurd (omega arith)

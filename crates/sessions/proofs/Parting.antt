@@ -10,31 +10,32 @@ use lib.Dec.{leb}
 use lib.ListN.{length, take, drop, length-drop}
 use lib.Seq.{drop-drop}
 use borrow.Author.Tests.{le-leb, lt-leb}
-use Rattle.events.specs.declared.Answer.{Answer}
 use Rattle.events.specs.declared.Log.{Log}
 use Rattle.events.specs.declared.Outcome.the-variants.{TooDeep}
 use Rattle.fields.specs.Common.{unknown, bdryBytes}
 use Rattle.fields.specs.declared.common.Bdry.the-variants.{Unsupplied, Of}
 use Rattle.fields.specs.declared.common.Scan.{Scan}
 use Rattle.reading.proofs.Words.{rest-is}
+use Rattle.reads.specs.Contracts.{Stopped}
+use Rattle.reads.specs.declared.Stop.{Stop}
 use Rattle.rules.specs.Machine.{Reaction}
 use Rattle.rules.specs.Mail.{afterMail, plainMail, starts, boundaryFree, begun, outermost, popped, skip}
 use Rattle.rules.specs.Phases.{State, reads, head, content, then}
 use Rattle.rules.specs.Sessions.{session, settle}
-use Rattle.sessions.specs.Walks.{Stopped, goes, under, walkLeft, Moved, Walks, Headers, piece, Lies, Within, partedLeft, MovedPart, Parts, Inner, MultiBodyIs, PartIs}
-use Rattle.sessions.specs.declared.reads.Boundary.{Boundary}
+use Rattle.sessions.specs.Walks.{goes, under, walkLeft, Moved, Walks, Headers, piece, Lies, Within, partedLeft, MovedPart, Parts, Inner, MultiBodyIs, PartIs}
+use Rattle.sessions.specs.declared.walks.Boundary.{Boundary}
 use Rattle.sessions.specs.declared.header.Headed.{Headed}
 use Rattle.sessions.specs.declared.header.Headed.the-variants as headed
 use Rattle.rules.specs.declared.Mail.{Mail}
 use Rattle.sessions.specs.declared.multi.Parted.{Parted}
 use Rattle.sessions.specs.declared.multi.Parted.the-variants as parted
-use Rattle.sessions.specs.declared.reads.Walk.{Walk}
-use Rattle.sessions.specs.declared.reads.Walk.the-variants as walk
+use Rattle.sessions.specs.declared.walks.Walk.{Walk}
+use Rattle.sessions.specs.declared.walks.Walk.the-variants as walk
 use Rattle.sessions.proofs.Readings.{ended}
 use Rattle.sessions.proofs.Steps.{further, here, walked}
 
 module _ {s t : List ℕ} {log : Log} {at : ℕ} {m : Mail} {b : List ℕ} {from : List (List ℕ) → Reaction State} {Asked : List (List ℕ) → Type 0} {u : List ℕ} where
-  pub parted-stop : {a : Answer} (to : List (List ℕ) → ℕ → State) → ((os : List (List ℕ)) → Asked os → Walks s t log at (from os) (to os) (walk.Stopped a) u)
+  pub parted-stop : {a : Stop} (to : List (List ℕ) → ℕ → State) → ((os : List (List ℕ)) → Asked os → Walks s t log at (from os) (to os) (walk.Stopped a) u)
       → Parts s t log at m b from Asked (parted.Stopped a) u
   parted-stop to w = record { moved = tt; is = λ os f. w os f .is }
 
@@ -56,7 +57,7 @@ module _ {s t : List ℕ} {log : Log} {at : ℕ} {m : Mail} {b : List ℕ} {from
   pub as-closed : {p : ℕ} {n : Log} → Parts s t log at m b from Asked (parted.Closed p n) u → Walks s t log at (from os) (λ q. skip m b os q) (walk.Went p n) u
   as-closed w = record { moved = (omega (arith, w .moved .0), w .moved .1); is = w .is os f }
 
-  pub as-stopped : {a : Answer} (to : ℕ → State) → Parts s t log at m b from Asked (parted.Stopped a) u → Walks s t log at (from os) to (walk.Stopped a) u
+  pub as-stopped : {a : Stop} (to : ℕ → State) → Parts s t log at m b from Asked (parted.Stopped a) u → Walks s t log at (from os) to (walk.Stopped a) u
   as-stopped to w = record { moved = tt; is = w .is os f }
 
 pub inner : {s t : List ℕ} {log : Log} {at : ℕ} {from : List (List ℕ) → Reaction State} {to : List (List ℕ) → ℕ → State} {Asked : List (List ℕ) → Type 0} {r : Walk} {u : List ℕ}
@@ -100,7 +101,7 @@ pub answered : (s : List ℕ) {t u : List ℕ} {log : Log} {at : ℕ} {r h : Hea
 answered s {at = at} e w = rw (rest-is s at, e) at w
 
 module _ (s : List ℕ) {t : List ℕ} {log : Log} {at : ℕ} {u : List ℕ} where
-  pub head-stopped : {a : Answer} {to : ℕ → State} → Headers (drop at s) t log at (headed.Stopped a) u → (m : Mail) (os : List (List ℕ))
+  pub head-stopped : {a : Stop} {to : ℕ → State} → Headers (drop at s) t log at (headed.Stopped a) u → (m : Mail) (os : List (List ℕ))
       → Walks s t log at (then [] (head m unknown os)) to (walk.Stopped a) u
   head-stopped h m os = record { moved = tt; is = h .is m os }
 
@@ -145,14 +146,14 @@ module _ (s : List ℕ) {t : List ℕ} {log : Log} {at : ℕ} {u : List ℕ} whe
 
     module _ (m : Mail) (b outer : Boundary) (levels o l : ℕ) (q : k .boundary ≡ Of o l) where
       -- the ninth level
-      pub part-ninth : {a : Answer} → levels ≡ 0 → Stopped TooDeep (at + e) n a
+      pub part-ninth : {a : Stop} → levels ≡ 0 → Stopped TooDeep (at + e) n a
           → PartIs s t log at b outer levels m (parted.Stopped a) u
       unfolding begun
       part-ninth z c = record {
         moved = tt;
         is = λ os f.
             let d : leb 8 (length (piece s b ∷ os)) ≡ true = le-leb 8 (length (piece s b ∷ os)) (omega (arith, f .deep)) in
-            rw (c .result, c .place, c .count) (ended TooDeep (at + e) (at + e) (drop (at + e) s) u n) ∙ rw d at (head-is m (piece s b ∷ os) _ (bytes-is o l q));
+            rw (c .result, c .place, c .log) (ended TooDeep (at + e) (at + e) (drop (at + e) s) u n) ∙ rw d at (head-is m (piece s b ∷ os) _ (bytes-is o l q));
       }
 
       -- a deeper one

@@ -2,13 +2,12 @@
 -- Assumes nothing.
 use mathlib.Core.Path.{_≡_, refl}
 use mathlib.Core.Bool.{true, false}
-use mathlib.Core.List.{List, []}
+use mathlib.Core.List.{List, [], _∷_}
 use Prim.Native.Nat.{ℕ, _+_, _-_, _≤_, _<_}
 use native.Mathlib.Omega.{arith}
 use lib.ListN.{length, take, drop, length-take, length-drop}
 use Rattle.events.specs.Events.{ev}
 use Rattle.events.specs.Events as event
-use Rattle.events.specs.declared.Answer.{Answer}
 use Rattle.events.specs.declared.Encoding.the-variants.{Unsaid}
 use Rattle.events.specs.declared.Log.{Log}
 use Rattle.events.specs.declared.Outcome.the-variants.{Done, NoHello, StartTls, NoRecipient}
@@ -24,15 +23,17 @@ use Rattle.reading.specs.Reading.{aLine, clean}
 use Rattle.reading.specs.Text.{text}
 use Rattle.reading.specs.declared.Place.{Place}
 use Rattle.reading.specs.declared.Place.the-variants.{At, Nowhere}
+use Rattle.reads.specs.Contracts.{Ends, Cleaned, Stopped, Full, Written}
+use Rattle.reads.specs.declared.Stop.{Stop}
 use Rattle.rules.specs.Phases.{State, reads, hello, second, user, password, sender, seeking, recipient, reply, head, then, wants}
 use Rattle.rules.specs.Sessions.{reacts}
 use Rattle.rules.specs.Smtp.{onHello, given, tried, bySecond, onSecond, onUser, onPassword, onSender, onSeeking, byRecipient, onRecipient, onReply}
-use Rattle.sessions.specs.Walks.{Ends, Cleaned, Stopped, Notes, Walks, Lists, LinedTo, LinedStop}
+use Rattle.sessions.specs.Walks.{Walks, Lists, LinedTo, LinedStop}
 use Rattle.rules.specs.declared.Mail.the-variants.{Smtp}
-use Rattle.sessions.specs.declared.reads.Noted.the-variants as noted
-use Rattle.sessions.specs.declared.reads.Walk.{Walk}
-use Rattle.sessions.specs.declared.reads.Walk.the-variants as walk
+use Rattle.sessions.specs.declared.walks.Walk.{Walk}
+use Rattle.sessions.specs.declared.walks.Walk.the-variants as walk
 use Rattle.sessions.proofs.Lines.{line-on, line-stop}
+use Rattle.sessions.proofs.MailTurns.{behind}
 use Rattle.sessions.proofs.Steps.{here, stop, read, note-stop, note}
 
 -- ---- an address lies inside its line
@@ -76,13 +77,13 @@ module _ {s t : List ℕ} {log : Log} {to : ℕ → State} where
   unfolding reacts onHello wants
   hello-said {e} d h w = let k : e - 0 ≡ e = omega arith in read hello d (rw (k, h) w)
 
-  pub hello-not : {e : ℕ} {a : Answer} → Ends aLine s 0 e → startsWithHelo (take e s) ≡ false → Stopped NoHello 0 log a → Walks s t log 0 (then [] hello) to (walk.Stopped a) t
+  pub hello-not : {e : ℕ} {a : Stop} → Ends aLine s 0 e → startsWithHelo (take e s) ≡ false → Stopped NoHello 0 log a → Walks s t log 0 (then [] hello) to (walk.Stopped a) t
   unfolding reacts onHello wants
   hello-not {e} d h w = let k : e - 0 ≡ e = omega arith in read hello d (rw (k, h) (stop w))
 
 -- ---- a line from `at` up to e, whose clean part ends at `end`
 module _ {s : List ℕ} {at end e : ℕ} (d : Cleaned s at end e) {t : List ℕ} {log : Log} {to : ℕ → State} where
-  pub second-tls : {a : Answer} → secondLine (part s at end) ≡ is.StartTls → Stopped StartTls at log a → Walks s t log at (then [] second) to (walk.Stopped a) t
+  pub second-tls : {a : Stop} → secondLine (part s at end) ≡ is.StartTls → Stopped StartTls at log a → Walks s t log at (then [] second) to (walk.Stopped a) t
   unfolding reacts onSecond bySecond wants
   second-tls h w = read second (d .ends) (rw (← (d .is), h) (stop w))
 
@@ -126,27 +127,27 @@ module _ {s t : List ℕ} {log : Log} (at : ℕ) {e : ℕ} {x : Address} where
   unfolding given
   tried-none h g = rw h (here e g)
 
-  pub tried-full : {to : ℕ → State} {a : Answer} {o n : ℕ} {u : List ℕ} → x ≡ Given o n → Notes t log (ev event.sender (at + o) n Unsaid) (noted.Stopped a) u
+  pub tried-full : {to : ℕ → State} {a : Stop} {o n : ℕ} {u : List ℕ} → x ≡ Given o n → Full t log (ev event.sender (at + o) n Unsaid ∷ []) a u
       → Walks s t log e (then (given at x) recipient) to (walk.Stopped a) u
   unfolding given
   tried-full h w = rw h (note-stop [] (reads recipient) w)
 
-  pub tried-some : {next : Log} {o n : ℕ} {u : List ℕ} → x ≡ Given o n → Notes t log (ev event.sender (at + o) n Unsaid) (noted.Written next) u → e ≤ length s
+  pub tried-some : {next : Log} {o n : ℕ} {u : List ℕ} → x ≡ Given o n → Written t log (ev event.sender (at + o) n Unsaid ∷ []) next u → e ≤ length s
       → Walks s t log e (then (given at x) recipient) (λ p. reads recipient) (walk.Went e next) u
   unfolding given
   tried-some h w g = rw h (note [] (reads recipient) w (here e g))
 
   -- a recipient: without one, the session is refused
-  pub recipient-none : {to : ℕ → State} {a : Answer} → x ≡ Missing → Stopped NoRecipient at log a → Walks s t log e (byRecipient at x) to (walk.Stopped a) t
+  pub recipient-none : {to : ℕ → State} {a : Stop} → x ≡ Missing → Stopped NoRecipient at log a → Walks s t log e (byRecipient at x) to (walk.Stopped a) t
   unfolding byRecipient
   recipient-none h w = rw h (stop w)
 
-  pub recipient-full : {to : ℕ → State} {a : Answer} {o n : ℕ} {u : List ℕ} → x ≡ Given o n → Notes t log (ev event.recipient (at + o) n Unsaid) (noted.Stopped a) u
+  pub recipient-full : {to : ℕ → State} {a : Stop} {o n : ℕ} {u : List ℕ} → x ≡ Given o n → Full t log (ev event.recipient (at + o) n Unsaid ∷ []) a u
       → Walks s t log e (byRecipient at x) to (walk.Stopped a) u
   unfolding byRecipient
   recipient-full h w = rw h (note-stop [] (reads recipient) w)
 
-  pub recipient-some : {next : Log} {o n : ℕ} {u : List ℕ} → x ≡ Given o n → Notes t log (ev event.recipient (at + o) n Unsaid) (noted.Written next) u → e ≤ length s
+  pub recipient-some : {next : Log} {o n : ℕ} {u : List ℕ} → x ≡ Given o n → Written t log (ev event.recipient (at + o) n Unsaid ∷ []) next u → e ≤ length s
       → Walks s t log e (byRecipient at x) (λ p. reads recipient) (walk.Went e next) u
   unfolding byRecipient
   recipient-some h w g = rw h (note [] (reads recipient) w (here e g))
@@ -165,13 +166,13 @@ unfolding reacts onReply wants
 reply-lists at = record { wants = refl; behind = λ l. []; is = λ l. by-test (startsWith (text "221") (clean l)) (λ h. rw h) (λ h. rw h) }
 
 module _ {s t : List ℕ} {log : Log} {at : ℕ} {to : ℕ → State} {u : List ℕ} where
-  pub user-stop : {a : Answer} → LinedStop s t log at event.user a u → Walks s t log at (then [] user) to (walk.Stopped a) u
+  pub user-stop : {a : Stop} → LinedStop s t log at event.user a u → Walks s t log at (then [] user) to (walk.Stopped a) u
   user-stop = line-stop (user-lists at)
 
-  pub password-stop : {a : Answer} → LinedStop s t log at event.password a u → Walks s t log at (then [] password) to (walk.Stopped a) u
+  pub password-stop : {a : Stop} → LinedStop s t log at event.password a u → Walks s t log at (then [] password) to (walk.Stopped a) u
   password-stop = line-stop (password-lists at)
 
-  pub reply-stop : {a : Answer} → LinedStop s t log at event.serverLine a u → Walks s t log at (then [] reply) to (walk.Stopped a) u
+  pub reply-stop : {a : Stop} → LinedStop s t log at event.serverLine a u → Walks s t log at (then [] reply) to (walk.Stopped a) u
   reply-stop = line-stop (reply-lists at)
 
   module _ {end e : ℕ} {next : Log} where
@@ -189,9 +190,7 @@ module _ {s t : List ℕ} {log : Log} {at : ℕ} {to : ℕ → State} {u : List 
     unfolding reply-lists reacts onReply
     reply-on d h w = line-on (reply-lists at) d (rw (← (d .line .is), h) w)
 
-    pub reply-last : {a : Answer} → LinedTo s t log at event.serverLine end e next u → startsWith (text "221") (part s at end) ≡ true
+    pub reply-last : {a : Stop} → LinedTo s t log at event.serverLine end e next u → startsWith (text "221") (part s at end) ≡ true
         → Stopped Done e next a → Walks s t log at (then [] reply) to (walk.Stopped a) u
     unfolding reply-lists reacts onReply
-    reply-last d h w =
-        let k : at + length (part s at e) ≡ e = omega (arith, d .line .ends .long, d .line .ends .on) in
-        line-on (reply-lists at) d (rw (← (d .line .is), h, k) (stop w))
+    reply-last d h w = line-on (reply-lists at) d (rw (← (d .line .is), h, behind (d .line .ends)) (stop w))

@@ -7,7 +7,6 @@ use Prim.Native.Nat.{ℕ, _+_, _≤_, _<_}
 use native.Mathlib.Omega.{arith}
 use lib.ListN.{length, drop}
 use Rattle.events.specs.Events.{serverLine, clientLine}
-use Rattle.events.specs.declared.Answer.{Answer}
 use Rattle.events.specs.declared.Log.{Log}
 use Rattle.events.specs.declared.Outcome.the-variants.{Done, OpenLiteral}
 use Rattle.fields.specs.Common.{part, unknown}
@@ -16,16 +15,19 @@ use Rattle.fields.specs.Pop3.{stlsAnswer, retrAnswer}
 use Rattle.reading.proofs.Places.{by-test}
 use Rattle.reading.specs.Bytes.{startsWith, same}
 use Rattle.reading.specs.Reading.{aLine, crlf, clean}
+use Rattle.reads.specs.Contracts.{Ends, Pair, NoPair, Stopped}
+use Rattle.reads.specs.declared.Stop.{Stop}
 use Rattle.rules.specs.Imap.{onCommand, onOffered, onClosing}
 use Rattle.rules.specs.Mail.{hyphens}
 use Rattle.rules.specs.Phases.{State, reads, wants, then, status, command, offered, closing, head}
 use Rattle.rules.specs.Pop3.{onStatus}
 use Rattle.rules.specs.Sessions.{reacts, session, settle}
-use Rattle.sessions.specs.Walks.{Stopped, Ends, Pair, NoPair, Walks, Lists, LinedTo, LinedStop, Moved, Farther, Turns}
+use Rattle.sessions.specs.Walks.{Walks, Lists, LinedTo, LinedStop, Moved, Farther, Turns}
 use Rattle.rules.specs.declared.Mail.the-variants.{Pop3, Imap}
-use Rattle.sessions.specs.declared.reads.Walk.{Walk}
-use Rattle.sessions.specs.declared.reads.Walk.the-variants as walk
+use Rattle.sessions.specs.declared.walks.Walk.{Walk}
+use Rattle.sessions.specs.declared.walks.Walk.the-variants as walk
 use Rattle.sessions.proofs.Lines.{line-on, line-stop}
+use Rattle.sessions.proofs.MailTurns.{behind}
 use Rattle.sessions.proofs.Readings.{turn}
 use Rattle.sessions.proofs.Steps as steps
 
@@ -43,16 +45,13 @@ status-lists at = record {
 }
 
 module _ {s t : List ℕ} {log : Log} {at : ℕ} {u : List ℕ} where
-  pub status-stop : {a : Answer} → LinedStop s t log at serverLine a u → Turns s t log at status (walk.Stopped a) u
+  pub status-stop : {a : Stop} → LinedStop s t log at serverLine a u → Turns s t log at status (walk.Stopped a) u
   status-stop d = record { walks = line-stop (status-lists at) d; farther = tt }
 
   module _ {end e : ℕ} {next : Log} (d : LinedTo s t log at serverLine end e next u) where
-    behind : at + length (part s at e) ≡ e
-    behind = omega (arith, d .line .ends .long, d .line .ends .on)
-
-    pub status-tls : {a : Answer} → stlsAnswer (part s at end) ≡ true → Stopped Done e next a → Turns s t log at status (walk.Stopped a) u
+    pub status-tls : {a : Stop} → stlsAnswer (part s at end) ≡ true → Stopped Done e next a → Turns s t log at status (walk.Stopped a) u
     unfolding status-lists reacts onStatus
-    status-tls h w = record { walks = line-on (status-lists at) d (rw (← (d .line .is), h, behind) (steps.stop w)); farther = tt }
+    status-tls h w = record { walks = line-on (status-lists at) d (rw (← (d .line .is), h, behind (d .line .ends)) (steps.stop w)); farther = tt }
 
     pub status-mail : {r : Walk} {v : List ℕ} → stlsAnswer (part s at end) ≡ false → retrAnswer (part s at end) ≡ true
         → Walks s u next e (then [] (head Pop3 unknown [])) (λ p. reads status) r v → Turns s t log at status r v
@@ -69,7 +68,7 @@ unfolding reacts onCommand wants
 command-lists at = record { wants = refl; behind = λ l. []; is = λ l. by-test (isAppend (clean l)) (λ h. rw h) (λ h. rw h) }
 
 module _ {s t : List ℕ} {log : Log} {at : ℕ} {u : List ℕ} where
-  pub command-stop : {a : Answer} → LinedStop s t log at clientLine a u → Turns s t log at command (walk.Stopped a) u
+  pub command-stop : {a : Stop} → LinedStop s t log at clientLine a u → Turns s t log at command (walk.Stopped a) u
   command-stop d = record { walks = line-stop (command-lists at) d; farther = tt }
 
   module _ {end e : ℕ} {next : Log} (d : LinedTo s t log at clientLine end e next u) where
@@ -107,7 +106,7 @@ module _ {s t : List ℕ} {log : Log} {at : ℕ} where
   unfolding reacts onClosing same startsWith wants
   closing-crlf p = steps.read closing (p .ends) (rw (p .is) (steps.here (at + 2) (p .ends .within)))
 
-  module _ {to : ℕ → State} {a : Answer} where
+  module _ {to : ℕ → State} {a : Stop} where
     pub closing-hyphens : Pair s at hyphens → Stopped OpenLiteral at log a → Walks s t log at (then [] closing) to (walk.Stopped a) t
     unfolding reacts onClosing same startsWith wants
     closing-hyphens p w = steps.read closing (p .ends) (rw (p .is) (steps.stop w))

@@ -1,103 +1,36 @@
 -- What the answers of the walks say: what is left to do. The entries' contracts use none of it.
 -- Assumes nothing.
 use mathlib.Core.Path.{_≡_}
-use mathlib.Core.Bool.{false}
 use mathlib.Core.List.{List, [], _∷_}
-use Prim.Native.Nat.{ℕ, _+_, _-_, _≤_, _<_}
+use Prim.Native.Nat.{ℕ, _+_, _≤_, _<_}
 use lib.ListN.{length, take, drop}
 use Rattle.events.specs.Events.{ev}
-use Rattle.events.specs.Table.{Final, final, finalOf}
-use Rattle.events.specs.declared.Answer.{Answer}
+use Rattle.events.specs.Table.{Final}
 use Rattle.events.specs.declared.Encoding.{Encoding}
 use Rattle.events.specs.declared.Encoding.the-variants.{Unsaid}
 use Rattle.events.specs.declared.Event.{Event}
 use Rattle.events.specs.declared.Log.{Log}
-use Rattle.events.specs.declared.Outcome.{Outcome}
 use Rattle.fields.specs.Common.{part, unknown, bdryBytes, Inside}
-use Rattle.reading.specs.Bytes.{same}
-use Rattle.reading.specs.Reading.{Need, aLine, two, crlf, clean, got, fetch}
+use Rattle.reading.specs.Reading.{aLine, clean}
+use Rattle.reads.specs.Contracts.{Cleaned, finalAt}
+use Rattle.reads.specs.declared.Noted.{Noted}
+use Rattle.reads.specs.declared.Noted.the-variants as noted
+use Rattle.reads.specs.declared.Stop.{Stop}
 use Rattle.rules.specs.Machine.{Reaction, Ran, before}
-use Rattle.rules.specs.Mail.{hyphens, starts, begun, skip, outermost, popped}
+use Rattle.rules.specs.Mail.{starts, begun, skip, outermost, popped}
 use Rattle.rules.specs.Phases.{Phase, State, reads, head, preamble, content, between, then, wants}
 use Rattle.rules.specs.Sessions.{reacts, session, settle}
-use Rattle.sessions.specs.declared.reads.Boundary.{Boundary}
-use Rattle.sessions.specs.declared.reads.Clean.{Clean}
-use Rattle.sessions.specs.declared.reads.Clean.the-variants as clean-line
+use Rattle.sessions.specs.declared.walks.Boundary.{Boundary}
 use Rattle.sessions.specs.declared.header.Headed.{Headed}
 use Rattle.sessions.specs.declared.header.Headed.the-variants as headed
-use Rattle.sessions.specs.declared.reads.Lined.{Lined}
-use Rattle.sessions.specs.declared.reads.Lined.the-variants as lined
+use Rattle.sessions.specs.declared.walks.Lined.{Lined}
+use Rattle.sessions.specs.declared.walks.Lined.the-variants as lined
 use Rattle.rules.specs.declared.Mail.{Mail}
 use Rattle.rules.specs.declared.Mail.the-variants.{Smtp, Pop3, Imap}
-use Rattle.sessions.specs.declared.reads.Noted.{Noted}
-use Rattle.sessions.specs.declared.reads.Noted.the-variants as noted
 use Rattle.sessions.specs.declared.multi.Parted.{Parted}
 use Rattle.sessions.specs.declared.multi.Parted.the-variants as parted
-use Rattle.sessions.specs.declared.reads.Read.{Read}
-use Rattle.sessions.specs.declared.reads.Read.the-variants as read
-use Rattle.sessions.specs.declared.reads.Two.{Two}
-use Rattle.sessions.specs.declared.reads.Two.the-variants as pair
-use Rattle.sessions.specs.declared.reads.Walk.{Walk}
-use Rattle.sessions.specs.declared.reads.Walk.the-variants as walk
-
--- an answer with this result and place, and the events so far
-pub record Stopped (o : Outcome) (p : ℕ) (log : Log) (a : Answer) : Type 0 where
-  pub result : a .result ≡ o
-  pub place : a .place ≡ p
-  pub count : a .count ≡ log .count
-
--- ---- reads
-
--- a read at i takes what lies up to j
-pub record Ends (nd : Need) (s : List ℕ) (i j : ℕ) : Type 0 where
-  pub on : i < j
-  pub within : j ≤ length s
-  pub long : length (part s i j) ≡ j - i
-  pub is : fetch nd (drop i s) ≡ got (part s i j) (drop j s)
-
--- a read at i stops the session: whatever phase asks for it, at whatever place a of the session
-pub record Stops (nd : Need) (s : List ℕ) (i : ℕ) (o : Outcome) : Type 0 where
-  pub is : (ph : Phase) → wants ph ≡ nd → (a : ℕ) (t : List ℕ) (log : Log) → final t o a (log .count) ≡ settle t log (session (reads ph) a (drop i s))
-
-abbrev pub ReadIs : Need → List ℕ → ℕ → Read → Type 0
-ReadIs nd s i (read.To j) = Ends nd s i j
-ReadIs nd s i (read.Stop o) = Stops nd s i o
-
--- a line from i up to j, whose clean part ends at `end`
-pub record Cleaned (s : List ℕ) (i end j : ℕ) : Type 0 where
-  pub ends : Ends aLine s i j
-  pub from : i ≤ end
-  pub within : end ≤ j
-  pub is : part s i end ≡ clean (part s i j)
-
-abbrev pub CleanIs : List ℕ → ℕ → Clean → Type 0
-CleanIs s i (clean-line.To end j) = Cleaned s i end j
-CleanIs s i (clean-line.Stop o) = Stops aLine s i o
-
-pub record Pair (s : List ℕ) (i : ℕ) (l : List ℕ) : Type 0 where
-  pub ends : Ends two s i (i + 2)
-  pub is : part s i (i + 2) ≡ l
-
-pub record NoPair (s : List ℕ) (i : ℕ) : Type 0 where
-  pub ends : Ends two s i (i + 2)
-  pub no-crlf : same crlf (part s i (i + 2)) ≡ false
-  pub no-hyphens : same hyphens (part s i (i + 2)) ≡ false
-
-abbrev pub TwoIs : List ℕ → ℕ → Two → Type 0
-TwoIs s i pair.Crlf = Pair s i crlf
-TwoIs s i pair.Hyphens = Pair s i hyphens
-TwoIs s i pair.Other = NoPair s i
-TwoIs s i (pair.Stop o) = Stops two s i o
-
--- ---- events
-
-abbrev pub notedLeft : List ℕ → List Event → Ran State → Noted → Final
-notedLeft u es o (noted.Written log) = settle u log (before es o)
-notedLeft u es o (noted.Stopped a) = finalOf u a
-
--- an event goes to the table, whatever comes behind it
-pub record Notes (t : List ℕ) (log : Log) (e : Event) (r : Noted) (u : List ℕ) : Type 0 where
-  pub is : (es : List Event) (o : Ran State) → notedLeft u es o r ≡ settle t log (before (e ∷ es) o)
+use Rattle.sessions.specs.declared.walks.Walk.{Walk}
+use Rattle.sessions.specs.declared.walks.Walk.the-variants as walk
 
 -- ---- walks
 
@@ -110,7 +43,12 @@ under re a l = before (re .events) (session (re .next) a l)
 
 abbrev pub walkLeft : List ℕ → List ℕ → (ℕ → State) → Walk → Final
 walkLeft s u to (walk.Went p log) = settle u log (session (to p) p (drop p s))
-walkLeft s u to (walk.Stopped a) = finalOf u a
+walkLeft s u to (walk.Stopped a) = finalAt u a
+
+-- events that were noted, and reading that goes on at `to`
+abbrev pub wentOf : Noted → ℕ → Walk
+wentOf (noted.Written log) to = walk.Went to log
+wentOf (noted.Stopped a) to = walk.Stopped a
 
 abbrev pub Moved : List ℕ → ℕ → Walk → Type 0
 Moved s at (walk.Went p log) = (at ≤ p) × (p ≤ length s)
@@ -145,23 +83,19 @@ pub record LinedTo (s t : List ℕ) (log : Log) (at kind end to : ℕ) (next : L
   pub is : (ph : Phase) (h : Lists kind at ph)
       → settle u next (under (apart h (part s at to)) to (drop to s)) ≡ settle t log (session (reads ph) at (drop at s))
 
-pub record LinedStop (s t : List ℕ) (log : Log) (at kind : ℕ) (a : Answer) (u : List ℕ) : Type 0 where
-  pub is : (ph : Phase) → Lists kind at ph → finalOf u a ≡ settle t log (session (reads ph) at (drop at s))
+pub record LinedStop (s t : List ℕ) (log : Log) (at kind : ℕ) (a : Stop) (u : List ℕ) : Type 0 where
+  pub is : (ph : Phase) → Lists kind at ph → finalAt u a ≡ settle t log (session (reads ph) at (drop at s))
 
 abbrev pub LinedIs : List ℕ → List ℕ → Log → ℕ → ℕ → Lined → List ℕ → Type 0
 LinedIs s t log at kind (lined.To end to next) u = LinedTo s t log at kind end to next u
 LinedIs s t log at kind (lined.Stopped a) u = LinedStop s t log at kind a u
-
--- events go into the table and reading goes on at `to`, whatever session and state that is
-abbrev pub Adds : List ℕ → Log → List Event → ℕ → Walk → List ℕ → Type 0
-Adds t log es to r u = (s : List ℕ) (st : ℕ → State) → to ≤ length s → Walks s t log to (record { events = es; next = st to }) st r u
 
 -- ---- headers: h is the buffer from the header's first byte on, the session's byte `base`
 
 abbrev pub headedLeft : List ℕ → ℕ → List ℕ → Mail → List (List ℕ) → Headed → Final
 headedLeft h base u m os (headed.Went k e log) =
     settle u log (under (begun m (k .encoding) (bdryBytes h (k .boundary)) os (base + e)) (base + e) (drop e h))
-headedLeft h base u m os (headed.Stopped a) = finalOf u a
+headedLeft h base u m os (headed.Stopped a) = finalAt u a
 
 abbrev pub MovedHead : List ℕ → Headed → Type 0
 MovedHead h (headed.Went k e log) = (0 < e) × (e ≤ length h) × Inside h (k .boundary)
@@ -193,7 +127,7 @@ pub record Within (s : List ℕ) (b outer : Boundary) (levels : ℕ) (os : List 
 abbrev pub partedLeft : List ℕ → List ℕ → Mail → List ℕ → List (List ℕ) → Parted → Final
 partedLeft s u m b os (parted.Next p log) = settle u log (session (reads (head m unknown (b ∷ os))) p (drop p s))
 partedLeft s u m b os (parted.Closed p log) = settle u log (session (skip m b os p) p (drop p s))
-partedLeft s u m b os (parted.Stopped a) = finalOf u a
+partedLeft s u m b os (parted.Stopped a) = finalAt u a
 
 abbrev pub MovedPart : List ℕ → ℕ → Parted → Type 0
 MovedPart s at (parted.Next p log) = (at < p) × (p ≤ length s)

@@ -7,21 +7,22 @@ ghost use Rattle.rules.specs.Phases.{reads, text, closing, then};
 ghost use Rattle.rules.specs.Sessions.{limit};
 ghost use Rattle.rules.specs.declared.Mail.{Mail};
 ghost use Rattle.sessions.specs.Walks.{Walks, Begun};
-use crate::reads::Noted;
-use crate::reads::Read;
-use crate::reads::Walk;
-use crate::reads::close;
-use crate::reads::hold;
-use crate::reads::line;
-use crate::reads::note;
-use crate::reads::sized;
-use crate::reads::stopped;
+use crate::walks::Walk;
+use crate::walks::went;
 use events::BODY_LINE;
 use events::BODY_START;
+use events::BODY_STOP;
 use events::Encoding;
 use events::Log;
 use events::Outcome;
 use events::SIZED_BODY;
+use reads::Noted;
+use reads::Read;
+use reads::hold;
+use reads::line;
+use reads::note;
+use reads::sized;
+use reads::stopped;
 use rules::Mail;
 
 // A mail with no boundary: lines up to the dot line, or what the literal has left.
@@ -73,7 +74,7 @@ fn body_lines(s: &[u8], at: usize, encoding: Encoding, table: &mut [u32], log: L
             }
             Read::To(e) => {
                 if reading::equals(&s[p..e], b".\r\n") {
-                    return close(table, n, p, e);
+                    return went(note(table, n, BODY_STOP, p, 0, Encoding::Unsaid), e);
                 }
                 match note(table, n, BODY_LINE, p, e - p, encoding) {
                     Noted::Stopped(a) => {
@@ -105,11 +106,11 @@ fn size_body(
         Noted::Stopped(a) => Walk::Stopped(a),
         Noted::Written(next) => {
             if size == 0 {
-                return close(table, next, at, at);
+                return went(note(table, next, BODY_STOP, at, 0, Encoding::Unsaid), at);
             }
             match sized(s, at, size) {
                 Read::Stop(o) => Walk::Stopped(stopped(o, at, next)),
-                Read::To(e) => hold(table, next, SIZED_BODY, at, e, encoding, e),
+                Read::To(e) => went(hold(table, next, SIZED_BODY, at, e - at, encoding), e),
             }
         }
     }

@@ -9,19 +9,19 @@ ghost use Rattle.rules.specs.Sessions.{limit};
 ghost use Rattle.sessions.specs.Walks.{Walks, Headers, Begun};
 use crate::body::plain_mail;
 use crate::multi::multi_body;
-use crate::reads::Boundary;
-use crate::reads::Noted;
-use crate::reads::Read;
-use crate::reads::Walk;
-use crate::reads::line;
-use crate::reads::note;
-use crate::reads::stopped;
-use events::Answer;
+use crate::walks::Boundary;
+use crate::walks::Walk;
 use events::Encoding;
 use events::HEADER_LINE;
 use events::Log;
 use fields::common::Bdry;
 use fields::common::Scan;
+use reads::Noted;
+use reads::Read;
+use reads::Stop;
+use reads::line;
+use reads::note;
+use reads::stopped;
 use rules::Mail;
 
 // Eight levels, the outermost being one.
@@ -30,7 +30,7 @@ const INNER_LEVELS: usize = 7;
 // The scan, the place behind the blank line in the part that was handed over; or the session's end.
 pub enum Headed {
     Went(Scan, usize, Log),
-    Stopped(Answer),
+    Stopped(Stop),
 }
 
 pub fn read_mail(s: &[u8], at: usize, mail: Mail, table: &mut [u32], log: Log) -> Walk

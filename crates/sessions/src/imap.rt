@@ -10,14 +10,10 @@ ghost use Rattle.rules.specs.declared.Mail.the-variants.{Imap};
 ghost use Rattle.events.specs.Table.{finalOf, noEvents};
 ghost use Rattle.sessions.specs.Walks.{Walks, Turns};
 use crate::header::read_mail;
-use crate::reads::Lined;
-use crate::reads::Read;
-use crate::reads::Two;
-use crate::reads::Walk;
-use crate::reads::line;
-use crate::reads::note_line;
-use crate::reads::stopped;
-use crate::reads::two_bytes;
+use crate::walks::Lined;
+use crate::walks::Walk;
+use crate::walks::answer;
+use crate::walks::note_line;
 use events::Answer;
 use events::CLIENT_LINE;
 use events::Log;
@@ -25,6 +21,11 @@ use events::Outcome;
 use fields::imap::append;
 use fields::imap::append_size;
 use fields::imap::has_colon;
+use reads::Read;
+use reads::Two;
+use reads::line;
+use reads::stopped;
+use reads::two_bytes;
 use rules::Mail;
 
 pub fn client(s: &[u8], table: &mut [u32]) -> Answer
@@ -36,7 +37,7 @@ pub fn client(s: &[u8], table: &mut [u32]) -> Answer
     loop {
         match command(s, p, table, n) {
             Walk::Stopped(a) => {
-                return a;
+                return answer(a);
             }
             Walk::Went(to, next) => {
                 p = to;

@@ -2,10 +2,11 @@
 ghost use mathlib.Core.Path.{_≡_};
 ghost use Rattle.events.specs.Table.{finalOf};
 ghost use Rattle.rules.specs.Sessions.{answerOf, smtpClient, smtpServer, pop3Server, imapClient};
-use crate::reads::stopped;
+use crate::walks::answer;
 use events::Answer;
 use events::Log;
 use events::Outcome;
+use reads::stopped;
 use rules::Entry;
 
 mod body;
@@ -13,8 +14,8 @@ mod header;
 mod imap;
 mod multi;
 mod pop3;
-mod reads;
 mod smtp;
+mod walks;
 
 const LIMIT: usize = 16_777_216;
 
@@ -22,7 +23,7 @@ pub fn dissect(entry: Entry, s: &[u8], table: &mut [u32]) -> Answer
     ensures { λ r. ⌜ finalOf (now (table .exit)) r ≡ answerOf entry (now (table .entry)) (now (s .entry)) ⌝ }
 {
     if s.len() > LIMIT {
-        return stopped(Outcome::TooLong, 0, Log { count: 0 });
+        return answer(stopped(Outcome::TooLong, 0, Log { count: 0 }));
     }
     match entry {
         Entry::SmtpClient => smtp::client(s, table),

@@ -12,32 +12,33 @@ ghost use Rattle.rules.specs.declared.Mail.{Mail};
 ghost use Rattle.sessions.specs.Walks.{Walks, piece, Lies, Begun, MultiBodyIs, PartIs, PreambleIs, ContentIs, MimeBodyIs, EpilogueIs};
 use crate::header::Headed;
 use crate::header::header;
-use crate::reads::Boundary;
-use crate::reads::Noted;
-use crate::reads::Read;
-use crate::reads::Two;
-use crate::reads::Walk;
-use crate::reads::delimited;
-use crate::reads::hold;
-use crate::reads::line;
-use crate::reads::note;
-use crate::reads::sized;
-use crate::reads::stopped;
-use crate::reads::two_bytes;
-use events::Answer;
+use crate::walks::Boundary;
+use crate::walks::Walk;
+use crate::walks::delimited;
+use crate::walks::went;
 use events::BODY_START;
 use events::Encoding;
 use events::Log;
 use events::Outcome;
 use events::PART_BODY;
 use fields::common::Bdry;
+use reads::Noted;
+use reads::Read;
+use reads::Stop;
+use reads::Two;
+use reads::hold;
+use reads::line;
+use reads::note;
+use reads::sized;
+use reads::stopped;
+use reads::two_bytes;
 use rules::Mail;
 
 // A part that was read: another follows, or the multipart was closed; or the session's end.
 pub enum Parted {
     Next(usize, Log),
     Closed(usize, Log),
-    Stopped(Answer),
+    Stopped(Stop),
 }
 
 pub fn multi_body(
@@ -167,7 +168,7 @@ fn mime_body(
             Read::Stop(o) => Walk::Stopped(stopped(o, at, next)),
             Read::To(e) => {
                 let size = less(e - at, b.len + 4);
-                hold(table, next, PART_BODY, at, at + size, encoding, e)
+                went(hold(table, next, PART_BODY, at, size, encoding), e)
             }
         },
     }

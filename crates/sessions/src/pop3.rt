@@ -7,16 +7,17 @@ ghost use Rattle.rules.specs.Sessions.{limit, session, settle};
 ghost use Rattle.events.specs.Table.{finalOf, noEvents};
 ghost use Rattle.sessions.specs.Walks.{Turns};
 use crate::header::read_mail;
-use crate::reads::Lined;
-use crate::reads::Walk;
-use crate::reads::note_line;
-use crate::reads::stopped;
+use crate::walks::Lined;
+use crate::walks::Walk;
+use crate::walks::answer;
+use crate::walks::note_line;
 use events::Answer;
 use events::Log;
 use events::Outcome;
 use events::SERVER_LINE;
 use fields::pop3::retr_answer;
 use fields::pop3::stls_answer;
+use reads::stopped;
 use rules::Mail;
 
 pub fn server(s: &[u8], table: &mut [u32]) -> Answer
@@ -28,7 +29,7 @@ pub fn server(s: &[u8], table: &mut [u32]) -> Answer
     loop {
         match status(s, p, table, n) {
             Walk::Stopped(a) => {
-                return a;
+                return answer(a);
             }
             Walk::Went(to, next) => {
                 p = to;

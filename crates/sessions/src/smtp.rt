@@ -13,16 +13,10 @@ ghost use Rattle.sessions.specs.Walks.{Walks};
 ghost use Rattle.fields.specs.Common.{unknown};
 ghost use Rattle.rules.specs.declared.Mail.the-variants.{Smtp};
 use crate::header::read_mail;
-use crate::reads::Clean;
-use crate::reads::Lined;
-use crate::reads::Noted;
-use crate::reads::Read;
-use crate::reads::Walk;
-use crate::reads::clean_line;
-use crate::reads::line;
-use crate::reads::note;
-use crate::reads::note_line;
-use crate::reads::stopped;
+use crate::walks::Lined;
+use crate::walks::Walk;
+use crate::walks::answer;
+use crate::walks::note_line;
 use events::Answer;
 use events::Encoding;
 use events::Log;
@@ -40,6 +34,13 @@ use fields::smtp::mail_from;
 use fields::smtp::rcpt_to;
 use fields::smtp::second_line;
 use fields::smtp::starts_with_helo;
+use reads::Clean;
+use reads::Noted;
+use reads::Read;
+use reads::clean_line;
+use reads::line;
+use reads::note;
+use reads::stopped;
 use rules::Mail;
 
 pub fn client(s: &[u8], table: &mut [u32]) -> Answer
@@ -48,14 +49,14 @@ pub fn client(s: &[u8], table: &mut [u32]) -> Answer
 {
     let none = Log { count: 0 };
     match hello(s, none) {
-        Walk::Stopped(a) => a,
+        Walk::Stopped(a) => answer(a),
         Walk::Went(second, k) => match envelope(s, second, table, k) {
-            Walk::Stopped(a) => a,
+            Walk::Stopped(a) => answer(a),
             Walk::Went(first, n) => match multi_rcpt_to(s, first, table, n) {
-                Walk::Stopped(a) => a,
+                Walk::Stopped(a) => answer(a),
                 Walk::Went(head, m) => match read_mail(s, head, Mail::Smtp, table, m) {
-                    Walk::Stopped(a) => a,
-                    Walk::Went(to, all) => stopped(Outcome::Done, to, all),
+                    Walk::Stopped(a) => answer(a),
+                    Walk::Went(to, all) => answer(stopped(Outcome::Done, to, all)),
                 },
             },
         },
@@ -206,11 +207,11 @@ pub fn server(s: &[u8], table: &mut [u32]) -> Answer
     loop {
         match note_line(s, p, SERVER_LINE, table, n) {
             Lined::Stopped(a) => {
-                return a;
+                return answer(a);
             }
             Lined::To(end, e, next) => {
                 if reading::starts_with(&s[p..end], b"221") {
-                    return stopped(Outcome::Done, e, next);
+                    return answer(stopped(Outcome::Done, e, next));
                 }
                 p = e;
                 n = next;

@@ -1,4 +1,5 @@
 -- `sessions::dissect` meets its contract: 2 first, else the entry that is asked for. Assumes nothing.
+use mathlib.Core.Path.{_∙_}
 use borrow.Author.Needs.{needs}
 use Rattle.rules.specs.Phases.{hello, reply, status, command}
 use Rattle.rules.specs.Sessions.{startOf}
@@ -9,8 +10,8 @@ use Rattle.sessions.proofs.dissect.Tie as tie
 -- ---- more bytes than the limit: refusal 2
 returns : tie.Need-returns
 returns c =
-    let start = c .before .before .before .before in
-    too-long (startOf (start .args .entry)) _ _ _ (c .before .if1 .taken) (c .stopped .ensures)
+    let start = c .before .before .before .before .before in
+    c .answer .ensures _ ∙ too-long (startOf (start .args .entry)) _ _ (c .before .before .if1 .taken) (c .before .stopped .ensures)
 
 -- ---- no more: each entry from its first phase
 
@@ -42,6 +43,7 @@ pub dissect-spec : {M : Type 1} → statement M
 dissect-spec =
     tie.close
     (tie.spec
+    (λ c κs. search needs)
     (λ c κs. search needs)
     returns
     (λ c. search needs)

@@ -8,14 +8,15 @@ use borrow.Author.Needs.{needs}
 use Rattle.events.specs.declared.Encoding.{Encoding}
 use Rattle.events.specs.declared.Log.{Log}
 use Rattle.reading.specs.Reading.{aLine}
+use Rattle.reads.specs.Contracts.{Ends}
 use Rattle.rules.specs.Mail.{afterMail}
 use Rattle.rules.specs.Phases.{reads, text, then, wants}
 use Rattle.rules.specs.declared.Mail.{Mail}
 use Rattle.rules.specs.declared.Mail.the-variants.{Smtp}
-use Rattle.sessions.specs.Walks.{Ends, Walks}
-use Rattle.sessions.specs.declared.reads.Walk.the-variants as walk
+use Rattle.sessions.specs.Walks.{Walks}
+use Rattle.sessions.specs.declared.walks.Walk.the-variants as walk
 use Rattle.sessions.proofs.MailTurns.{read-as, text-dot, text-line}
-use Rattle.sessions.proofs.Steps.{here, read-stop, note-stop, note, walked}
+use Rattle.sessions.proofs.Steps.{here, read-stop, note-stop, note, adds, walked}
 use Rattle.sessions.proofs.body.body_lines.Statement.{statement}
 use Rattle.sessions.proofs.body.body_lines.Tie as tie
 
@@ -54,25 +55,26 @@ part-equals-end : tie.Need-part-equals-end Inv-loop μ-loop
 part-equals-end c = line-to (c .before) .within
 
 -- ---- it is the dot line
-close-requires : tie.Need-close-requires Inv-loop μ-loop
-close-requires c κs = omega (arith, c .before .before .before .before .before .before .before .before .before .loop .inv .walks Smtp .moved .1)
+note-requires : tie.Need-note-requires Inv-loop μ-loop
+note-requires c κs = (omega (arith, c .before .before .before .before .before .before .before .before .before .loop .inv .walks Smtp .moved .1), omega arith)
 
 returns-2 : tie.Need-returns-2 Inv-loop μ-loop
 unfolding wants
 returns-2 c =
-    let called = c .before .before in
+    let called = c .before .before .before in
     let tested = called .before .before .before in
     let inv = tested .before .before .before .before .before .before .before .loop .inv in
     let line = line-to (tested .before .before .before .before) in
     let dot = sym (tested .equals .ensures) ∙ called .before .before .if1 .taken in
-    λ m. walked (inv .walks m) (read-as (text m _) line (text-dot line m _ dot) (called .close .ensures _ (afterMail m) (line .within)))
+    λ m. walked (inv .walks m) (read-as (text m _) line (text-dot line m _ dot)
+    (adds (called .note .result) (c .went .ensures) (called .note .ensures) _ (afterMail m) (line .within)))
 
 -- ---- any other line is listed
 sub-note : tie.Need-sub-note Inv-loop μ-loop
 sub-note c = omega (arith, line-to (c .before .before .before .before .before .before) .on)
 
-note-requires : tie.Need-note-requires Inv-loop μ-loop
-note-requires c κs =
+note-requires-2 : tie.Need-note-requires-2 Inv-loop μ-loop
+note-requires-2 c κs =
     let line = c .before .before .before .before .before .before in
     (omega (arith, line .before .before .before .loop .inv .walks Smtp .moved .1), omega (arith, line-to line .within))
 
@@ -85,7 +87,7 @@ returns-3 c =
     let inv = tested .before .before .before .before .before .before .before .loop .inv in
     let line = line-to (tested .before .before .before .before) in
     let other = sym (tested .equals .ensures) ∙ called .before .before .if1 .left in
-    let full = rw (c .before .a .given .1) at (called .note .ensures) in
+    let full = rw (c .before .a .given .1) at (called .note2 .ensures) in
     λ m. walked (inv .walks m) (read-as (text m _) line (text-line line m _ other) (note-stop [] (reads (text m _)) full))
 
 loop-less : tie.Need-loop-less Inv-loop μ-loop
@@ -101,10 +103,10 @@ loop-again c =
     let inv = tested .before .before .before .before .before .before .before .loop .inv in
     let line = line-to (tested .before .before .before .before) in
     let other = sym (tested .equals .ensures) ∙ called .before .before .if1 .left in
-    let written = rw (c .before .next .given .1) at (called .note .ensures) in
+    let written = rw (c .before .next .given .1) at (called .note2 .ensures) in
     record {
       walks = λ m. walked (inv .walks m) (read-as (text m _) line (text-line line m _ other) (note [] (reads (text m _)) written (here _ (line .within))));
-      long = called .note .kept .0 ∙ inv .long;
+      long = called .note2 .kept .0 ∙ inv .long;
     }
 
 pub body-lines-spec : {M : Type 1} → statement M
@@ -125,11 +127,12 @@ body-lines-spec =
     part-equals-end
     (λ c. search needs)
     (λ c _. search needs)
-    close-requires
+    note-requires
+    (λ c κs. search needs)
     (λ c. search needs)
     returns-2
     sub-note
-    note-requires
+    note-requires-2
     (λ c. search needs)
     (λ c. search needs)
     returns-3

@@ -1,15 +1,15 @@
 -- `sessions::body::size_body` meets its contract, by what is left of the literal. Assumes nothing.
+use mathlib.Core.List.{[], _∷_}
 use Prim.Native.Nat.{_-_}
 use native.Mathlib.Omega.{arith}
 use borrow.Author.Needs.{needs}
 use Rattle.events.specs.Events.{ev, bodyStart}
 use Rattle.events.specs.declared.Encoding.the-variants.{Unsaid}
 use Rattle.reading.specs.Reading.{bytes}
+use Rattle.reads.specs.Contracts.{Ends, Written}
 use Rattle.rules.specs.Phases.{reads, closing, literal, wants}
-use Rattle.sessions.specs.Walks.{Ends, Notes}
-use Rattle.sessions.specs.declared.reads.Noted.the-variants as noted
 use Rattle.sessions.proofs.MailTurns.{read-as, literal-none, literal-some, literal-all, literal-full}
-use Rattle.sessions.proofs.Steps.{read-stop}
+use Rattle.sessions.proofs.Steps.{read-stop, adds}
 use Rattle.sessions.proofs.body.size_body.Statement.{statement}
 use Rattle.sessions.proofs.body.size_body.Tie as tie
 
@@ -21,7 +21,7 @@ start c = c .before .before .before .before .before .before .before .before
 started : (c : tie.After-next) →
     let a = start c .args in
     let table = c .before .before .before .before .note .last .0 in
-    Notes (a .table .now) (a .log) (ev bodyStart (a .at) 0 Unsaid) (noted.Written (c .next .given .0 .0)) table
+    Written (a .table .now) (a .log) (ev bodyStart (a .at) 0 Unsaid ∷ []) (c .next .given .0 .0) table
 started c = rw (c .next .given .1) at (c .before .before .before .before .note .ensures)
 
 -- behind `sized`'s answer `To(e)`: where the start was listed
@@ -43,10 +43,12 @@ returns-2 c =
 -- ---- nothing is left of the literal
 returns : tie.Need-returns
 returns c =
-    let tested = c .before .before .before .before in
+    let called = c .before .before .before in
+    let tested = called .before .before in
     let told = tested .before .before in
     let a = start told .args in
-    literal-none _ (a .size) (tested .if1 .taken) (started told) (c .before .before .close .ensures (a .s .now) (λ p. reads closing) (start told .pre .1))
+    literal-none _ (a .size) (tested .if1 .taken) (started told)
+    (adds (called .note2 .result) (c .went .ensures) (called .note2 .ensures) (a .s .now) (λ p. reads closing) (start told .pre .1))
 
 -- ---- something is left, and the buffer ends before
 returns-3 : tie.Need-returns-3
@@ -59,20 +61,25 @@ returns-3 c =
     literal-some _ (a .size) (omega arith) (started told) (read-stop (literal (a .encoding) (a .size - 1)) short (c .stopped .ensures))
 
 -- ---- something is left, and it is there
+sub-hold : tie.Need-sub-hold
+sub-hold c = omega (arith, bytes-to (c .before .before) .on)
+
 hold-requires : tie.Need-hold-requires
 hold-requires c κs =
     let body = bytes-to (c .before .before) in
-    (omega (arith, body .on), omega (arith, body .within))
+    omega (arith, body .on, body .within)
 
 returns-4 : tie.Need-returns-4
 unfolding wants
 returns-4 c =
-    let taken = c .before .before .before .before .before in
+    let called = c .before .before .before in
+    let taken = called .before .before .before in
     let told = listed taken in
     let a = start told .args in
     let body = bytes-to taken in
     literal-some _ (a .size) (omega arith) (started told)
-    (read-as (literal (a .encoding) (a .size - 1)) body (literal-all body _ _) (c .before .before .hold .ensures (a .s .now) (λ p. reads closing) (body .within)))
+    (read-as (literal (a .encoding) (a .size - 1)) body (literal-all body _ _)
+    (adds (called .hold .result) (c .went2 .ensures) (called .hold .ensures) (a .s .now) (λ p. reads closing) (body .within)))
 
 pub size-body-spec : {M : Type 1} → statement M
 size-body-spec =
@@ -81,6 +88,7 @@ size-body-spec =
     (λ c κs. (omega arith, omega arith))
     (λ c. search needs)
     (λ c. search needs)
+    (λ c κs. (omega arith, omega arith))
     (λ c κs. search needs)
     (λ c. search needs)
     returns
@@ -88,7 +96,9 @@ size-body-spec =
     (λ c. search needs)
     (λ c κs. search needs)
     (λ c. search needs)
+    sub-hold
     hold-requires
+    (λ c κs. search needs)
     (λ c. search needs)
     returns-2
     (λ c. search needs)

@@ -5,7 +5,7 @@ use native.Mathlib.Omega.{arith}
 use lib.ListN.{length}
 use borrow.Author.Needs.{needs}
 use Rattle.reading.specs.Reading.{aLine}
-use Rattle.sessions.specs.Walks.{Ends}
+use Rattle.reads.specs.Contracts.{Ends}
 use Rattle.sessions.proofs.HeadTurns.{HeadAt, head-start, head-short, head-full, head-blank, head-line}
 use Rattle.sessions.proofs.header.header.Statement.{statement}
 use Rattle.sessions.proofs.header.header.Tie as tie

@@ -5,11 +5,12 @@ use native.Mathlib.Omega.{arith}
 use borrow.Author.Needs.{needs}
 use Rattle.fields.specs.Common.{unknown}
 use Rattle.reading.specs.Reading.{crlf}
+use Rattle.reads.specs.Contracts.{Pair}
 use Rattle.rules.specs.Mail.{afterMail}
 use Rattle.rules.specs.Phases.{reads, closing, head, then, wants}
 use Rattle.rules.specs.declared.Mail.the-variants.{Imap}
-use Rattle.sessions.specs.Walks.{Pair, Walks}
-use Rattle.sessions.specs.declared.reads.Walk.the-variants as walk
+use Rattle.sessions.specs.Walks.{Walks}
+use Rattle.sessions.specs.declared.walks.Walk.the-variants as walk
 use Rattle.sessions.proofs.StatusTurns.{closing-crlf, closing-hyphens, closing-other}
 use Rattle.sessions.proofs.Steps.{read-stop, walked, stopped}
 use Rattle.sessions.proofs.imap.append_mail.Statement.{statement}

@@ -3,8 +3,8 @@ use mathlib.Core.Path.{sym, _∙_}
 use native.Mathlib.Omega.{arith}
 use borrow.Author.Needs.{needs}
 use Rattle.reading.specs.Reading.{aLine}
+use Rattle.reads.specs.Contracts.{Ends}
 use Rattle.rules.specs.Phases.{offered, wants}
-use Rattle.sessions.specs.Walks.{Ends}
 use Rattle.sessions.proofs.StatusTurns.{offered-mail, offered-none}
 use Rattle.sessions.proofs.Steps.{read-stop}
 use Rattle.sessions.proofs.imap.append_ok.Statement.{statement}

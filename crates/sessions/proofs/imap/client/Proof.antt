@@ -21,9 +21,9 @@ command-requires c κs = (c .before .before .before .before .pre, c .before .loo
 -- a turn stopped
 returns : tie.Need-returns Inv-loop μ-loop
 returns c =
-    let called = c .before .before .before .before .before in
-    let turn = rw (c .before .a .given .1) at (called .command .ensures) in
-    walked {to = λ q. reads command} (called .before .before .loop .inv .walks) (turn .walks) .is
+    let called = c .before .before .before .before .before .before in
+    let turn = rw (c .before .before .a .given .1) at (called .command .ensures) in
+    c .answer .ensures _ ∙ walked {to = λ q. reads command} (called .before .before .loop .inv .walks) (turn .walks) .is
 
 -- ---- it went on
 loop-less : tie.Need-loop-less Inv-loop μ-loop
@@ -47,6 +47,7 @@ client-spec =
     (λ c. not-yet (omega arith))
     command-requires
     (λ c. search needs)
+    (λ c κs. search needs)
     (λ c. search needs)
     returns
     (λ c. search needs)

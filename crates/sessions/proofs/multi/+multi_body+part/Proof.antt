@@ -10,11 +10,12 @@ use borrow.Fn.Kinds.{In}
 use borrow.Fn.PlainCycle.{Measures, is, falls, and}
 use Rattle.fields.specs.Common.{unknown}
 use Rattle.reading.proofs.Words.{rest-is}
+use Rattle.reads.proofs.stopped.Reads as stopped-reads
 use Rattle.rules.specs.Mail.{popped}
 use Rattle.rules.specs.Phases.{reads, head, preamble, then}
 use Rattle.sessions.specs.Walks.{Walks, Headers, piece, Lies, Within}
 use Rattle.sessions.specs.declared.header.Headed.the-variants as headed
-use Rattle.sessions.specs.declared.reads.Walk.the-variants as walk
+use Rattle.sessions.specs.declared.walks.Walk.the-variants as walk
 use Rattle.sessions.proofs.MailTurns.{begun-on}
 use Rattle.sessions.proofs.Parting.{outermost-none, inner, parted-stop, as-closed, as-stopped, SoFar, none-so-far, one-more}
 use Rattle.sessions.proofs.Parting.{supplied, answered, head-stopped, head-within, head-lies, part-plain, part-ninth, part-deeper}
@@ -31,7 +32,6 @@ use Rattle.sessions.proofs.header.header.Reads as header-reads
 use Rattle.sessions.proofs.multi.multi_body.Reads as multi-body
 use Rattle.sessions.proofs.multi.part.Reads as part
 use Rattle.sessions.proofs.multi.preamble.Reads as preamble-reads
-use Rattle.sessions.proofs.reads.stopped.Reads as stopped-reads
 
 -- ---- the measures: the levels left; a multipart is above the parts of its own level
 abbrev μ-multi-body : Measures 2 multi-body-kinds.ps ℕ

@@ -4,12 +4,13 @@ use Prim.Native.Nat.{ℕ}
 use native.Mathlib.Omega.{arith}
 use borrow.Author.Needs.{needs}
 use Rattle.reading.specs.Reading.{crlf}
+use Rattle.reads.specs.Contracts.{Pair}
 use Rattle.rules.specs.Mail.{hyphens, starts, popped}
 use Rattle.rules.specs.Phases.{reads, content, between, wants}
 use Rattle.rules.specs.declared.Mail.{Mail}
 use Rattle.rules.specs.declared.Mail.the-variants.{Smtp}
-use Rattle.sessions.specs.Walks.{Pair, Walks, piece}
-use Rattle.sessions.specs.declared.reads.Walk.the-variants as walk
+use Rattle.sessions.specs.Walks.{Walks, piece}
+use Rattle.sessions.specs.declared.walks.Walk.the-variants as walk
 use Rattle.sessions.proofs.MailTurns.{between-crlf, between-hyphens, between-other}
 use Rattle.sessions.proofs.Parting.{parted-stop, parted-next, parted-closed}
 use Rattle.sessions.proofs.Steps.{read-stop, walked, stopped}

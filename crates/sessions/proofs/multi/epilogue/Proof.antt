@@ -8,12 +8,13 @@ use lib.ListN.{length}
 use borrow.Author.Needs.{needs}
 use Rattle.events.specs.declared.Log.{Log}
 use Rattle.reading.specs.Reading.{aLine}
+use Rattle.reads.specs.Contracts.{Ends}
 use Rattle.rules.specs.Mail.{outermost, skip}
 use Rattle.rules.specs.Phases.{reads, skipping, wants}
-use Rattle.sessions.specs.Walks.{Ends, goes, piece, Walks}
+use Rattle.sessions.specs.Walks.{goes, piece, Walks}
 use Rattle.rules.specs.declared.Mail.{Mail}
-use Rattle.sessions.specs.declared.reads.Boundary.{Boundary}
-use Rattle.sessions.specs.declared.reads.Walk.the-variants as walk
+use Rattle.sessions.specs.declared.walks.Boundary.{Boundary}
+use Rattle.sessions.specs.declared.walks.Walk.the-variants as walk
 use Rattle.sessions.proofs.MailTurns.{read-as, skipping-last, skipping-on, skip-by-rest, skip-by-line, begun-on}
 use Rattle.sessions.proofs.Steps.{here, read-stop, walked}
 use Rattle.sessions.proofs.multi.epilogue.Statement.{statement}

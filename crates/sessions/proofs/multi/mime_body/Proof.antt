@@ -1,16 +1,16 @@
 -- `sessions::multi::mime_body` meets its contract: the body's start, then all up to the delimiter. Assumes nothing.
-use mathlib.Core.List.{[]}
+use mathlib.Core.List.{[], _∷_}
 use native.Mathlib.Omega.{arith}
 use borrow.Author.Needs.{needs}
 use Rattle.events.specs.Events.{ev, bodyStart}
 use Rattle.events.specs.declared.Encoding.the-variants.{Unsaid}
 use Rattle.reading.specs.Reading.{delimiter}
+use Rattle.reads.specs.Contracts.{Ends, Written}
 use Rattle.rules.specs.Phases.{reads, content, between, wants}
-use Rattle.sessions.specs.Walks.{Ends, Notes, piece}
-use Rattle.sessions.specs.declared.reads.Noted.the-variants as noted
+use Rattle.sessions.specs.Walks.{piece}
 use Rattle.sessions.proofs.MailTurns.{read-as, content-all}
 use Rattle.sessions.proofs.Readings.{piece-length}
-use Rattle.sessions.proofs.Steps.{read-stop, note-stop, note}
+use Rattle.sessions.proofs.Steps.{read-stop, note-stop, note, adds}
 use Rattle.sessions.proofs.multi.mime_body.Statement.{statement}
 use Rattle.sessions.proofs.multi.mime_body.Tie as tie
 
@@ -22,7 +22,7 @@ start c = c .before .before .before .before .before .before .before .before
 started : (c : tie.After-next) →
     let a = start c .args in
     let table = c .before .before .before .before .note .last .0 in
-    Notes (a .table .now) (a .log) (ev bodyStart (a .at) 0 Unsaid) (noted.Written (c .next .given .0 .0)) table
+    Written (a .table .now) (a .log) (ev bodyStart (a .at) 0 Unsaid ∷ []) (c .next .given .0 .0) table
 started c = rw (c .next .given .1) at (c .before .before .before .before .note .ensures)
 
 -- behind `delimited`'s answer `To(e)`: where the start was listed
@@ -55,27 +55,25 @@ returns-2 c =
 sub-less : tie.Need-sub-less
 sub-less c = omega (arith, delimiter-to (c .before) .on)
 
-add-hold : tie.Need-add-hold
-add-hold c = omega (arith, c .before .less .ensures, delimiter-to (c .before .before .before .before) .within)
-
 hold-requires : tie.Need-hold-requires
 hold-requires c κs =
     let delimiter = delimiter-to (c .before .before .before .before) in
-    (omega arith, omega (arith, c .before .less .ensures, delimiter .on, delimiter .within))
+    omega (arith, c .before .less .ensures, delimiter .on, delimiter .within)
 
 returns-3 : tie.Need-returns-3
 unfolding wants
 returns-3 c =
-    let taken = c .before .before .before .before .before .before .before in
+    let called = c .before .before .before in
+    let taken = called .before .before .before .before .before in
     let begun = start (listed taken) in
     let s = begun .args .s .now in
     let b = begun .args .b in
     let delimiter = delimiter-to taken in
-    let less = c .before .before .before .before .less .ensures in
+    let less = called .before .before .less .ensures in
     let long = piece-length s b (begun .pre .2) in
     λ m os. note [] (reads (content m _ _ os)) (started (listed taken))
     (read-as (content m _ (piece s b) os) delimiter (content-all delimiter m _ _ os _ (omega (arith, less, long)))
-    (c .before .before .hold .ensures s (λ p. reads (between m _ os)) (delimiter .within)))
+    (adds (called .hold .result) (c .went .ensures) (called .hold .ensures) s (λ p. reads (between m _ os)) (delimiter .within)))
 
 pub mime-body-spec : {M : Type 1} → statement M
 mime-body-spec =
@@ -91,8 +89,8 @@ mime-body-spec =
     sub-less
     (λ c. omega arith)
     (λ c κs. search needs)
-    add-hold
     hold-requires
+    (λ c κs. search needs)
     (λ c. search needs)
     returns
     (λ c. search needs)

@@ -4,10 +4,11 @@ use Prim.Native.Nat.{ℕ}
 use native.Mathlib.Omega.{arith}
 use borrow.Author.Needs.{needs}
 use Rattle.reading.specs.Reading.{crlf, delimiter}
+use Rattle.reads.specs.Contracts.{Ends, Pair}
 use Rattle.rules.specs.Phases.{reads, opened, preamble, then, wants}
 use Rattle.rules.specs.declared.Mail.{Mail}
-use Rattle.sessions.specs.Walks.{Ends, Pair, Walks, piece}
-use Rattle.sessions.specs.declared.reads.Walk.the-variants as walk
+use Rattle.sessions.specs.Walks.{Walks, piece}
+use Rattle.sessions.specs.declared.walks.Walk.the-variants as walk
 use Rattle.sessions.proofs.MailTurns.{preamble-on, opened-crlf, opened-hyphens, opened-other}
 use Rattle.sessions.proofs.Steps.{read-stop, walked}
 use Rattle.sessions.proofs.multi.preamble.Statement.{statement}

@@ -1,4 +1,5 @@
 -- `sessions::smtp::client` meets its contract: each walk goes on where the one before it came to. Assumes nothing.
+use mathlib.Core.Path.{_∙_}
 use mathlib.Core.List.{[]}
 use borrow.Author.Needs.{needs}
 use Rattle.fields.specs.Common.{unknown}
@@ -6,7 +7,7 @@ use Rattle.rules.specs.Mail.{afterMail}
 use Rattle.rules.specs.Phases.{reads, hello, second, recipient, head, then}
 use Rattle.rules.specs.declared.Mail.the-variants.{Smtp}
 use Rattle.sessions.specs.Walks.{Walks}
-use Rattle.sessions.specs.declared.reads.Walk.the-variants as walk
+use Rattle.sessions.specs.declared.walks.Walk.the-variants as walk
 use Rattle.sessions.proofs.Steps.{stop, walked}
 use Rattle.sessions.proofs.smtp.client.Statement.{statement}
 use Rattle.sessions.proofs.smtp.client.Tie as tie
@@ -69,34 +70,42 @@ read-mail-requires c κs =
 -- no HELO
 returns : tie.Need-returns
 returns c =
-    let called = c .before .before .before in
-    (rw (c .before .a .given .1) at (called .hello .ensures)) (called .before .before .before .args .table .now) .is
+    let called = c .before .before .before .before in
+    c .answer .ensures _ ∙ (rw (c .before .before .a .given .1) at (called .hello .ensures)) (called .before .before .before .args .table .now) .is
 
 -- the envelope stopped
 returns-2 : tie.Need-returns-2
 returns-2 c =
-    let called = c .before .before .before .before .before in
-    walked (greeted (called .before .before .before)) (rw (c .before .a2 .given .1) at (called .envelope .ensures)) .is
+    let called = c .before .before .before .before .before .before in
+    c .answer2 .ensures _ ∙ walked (greeted (called .before .before .before)) (rw (c .before .before .a2 .given .1) at (called .envelope .ensures)) .is
 
 -- a recipient stopped
 returns-3 : tie.Need-returns-3
 returns-3 c =
-    let called = c .before .before .before .before .before in
-    walked (enveloped (called .before .before .before)) (rw (c .before .a3 .given .1) at (called .multi-rcpt-to .ensures)) .is
+    let called = c .before .before .before .before .before .before in
+    c .answer3 .ensures _ ∙ walked (enveloped (called .before .before .before)) (rw (c .before .before .a3 .given .1) at (called .multi-rcpt-to .ensures)) .is
 
 -- the mail stopped
 returns-4 : tie.Need-returns-4
 returns-4 c =
-    let called = c .before .before .before .before .before in
-    walked (addressed (called .before .before .before)) (rw (c .before .a4 .given .1) at (called .read-mail .ensures)) .is
+    let called = c .before .before .before .before .before .before in
+    c .answer4 .ensures _ ∙ walked (addressed (called .before .before .before)) (rw (c .before .before .a4 .given .1) at (called .read-mail .ensures)) .is
 
 -- the mail ended: done
 returns-5 : tie.Need-returns-5
 unfolding afterMail
 returns-5 c =
-    let called = c .before .before .before .before .before .before in
-    let ended = rw (c .before .before .to .given .1) at (called .read-mail .ensures) in
-    walked (addressed (called .before .before .before)) (walked ended (stop {to = afterMail Smtp} (c .stopped .ensures))) .is
+    let called = c .before .before .before .before .before .before .before in
+    let ended = rw (c .before .before .before .to .given .1) at (called .read-mail .ensures) in
+    c .answer5 .ensures _ ∙ walked (addressed (called .before .before .before)) (walked ended (stop {to = afterMail Smtp} (c .before .stopped .ensures))) .is
+
+-- and the table is as long as it was: each walk kept its length
+same-length-4 : tie.Need-same-length-4
+same-length-4 c =
+    let mail = c .before .before .before .before .before .before .before in
+    let recipients = mail .before .before .before .before .before .before .before in
+    let envelope = recipients .before .before .before .before .before .before .before in
+    mail .read-mail .kept .1 .1 .1 .0 ∙ recipients .multi-rcpt-to .kept .1 .1 .0 ∙ envelope .envelope .kept .1 .1 .0
 
 pub client-spec : {M : Type 1} → statement M
 client-spec =
@@ -104,16 +113,21 @@ client-spec =
     (tie.spec
     (λ c κs. search needs)
     (λ c. search needs)
+    (λ c κs. search needs)
     (λ c. search needs)
     envelope-requires
     (λ c. search needs)
+    (λ c κs. search needs)
     (λ c. search needs)
     multi-rcpt-to-requires
     (λ c. search needs)
+    (λ c κs. search needs)
     (λ c. search needs)
     read-mail-requires
     (λ c. search needs)
+    (λ c κs. search needs)
     (λ c. search needs)
+    (λ c κs. search needs)
     (λ c κs. search needs)
     returns
     (λ c. search needs)
@@ -122,5 +136,5 @@ client-spec =
     returns-3
     (λ c. search needs)
     returns-4
-    (λ c. search needs)
+    same-length-4
     returns-5)

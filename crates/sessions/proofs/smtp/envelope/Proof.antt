@@ -2,8 +2,8 @@
 use mathlib.Core.Path.{sym, _∙_}
 use native.Mathlib.Omega.{arith}
 use borrow.Author.Needs.{needs}
+use Rattle.reads.specs.Contracts.{Cleaned}
 use Rattle.rules.specs.Phases.{wants, second}
-use Rattle.sessions.specs.Walks.{Cleaned}
 use Rattle.sessions.proofs.SmtpTurns.{second-tls, second-login, second-from, second-other}
 use Rattle.sessions.proofs.Steps.{read-stop}
 use Rattle.sessions.proofs.smtp.envelope.Statement.{statement}

@@ -3,8 +3,8 @@ use mathlib.Core.Path.{sym, _∙_}
 use lib.Seq.{length-take-le}
 use borrow.Author.Needs.{needs}
 use Rattle.reading.specs.Reading.{aLine}
+use Rattle.reads.specs.Contracts.{Ends}
 use Rattle.rules.specs.Phases.{wants, hello}
-use Rattle.sessions.specs.Walks.{Ends}
 use Rattle.sessions.proofs.SmtpTurns.{hello-said, hello-not}
 use Rattle.sessions.proofs.Steps.{here, read-stop}
 use Rattle.sessions.proofs.smtp.hello.Statement.{statement}

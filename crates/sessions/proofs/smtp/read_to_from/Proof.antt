@@ -4,8 +4,8 @@ use Prim.Native.Nat.{_-_}
 use native.Mathlib.Omega.{arith}
 use lib.ListN.{length}
 use borrow.Author.Needs.{needs}
+use Rattle.reads.specs.Contracts.{Cleaned}
 use Rattle.rules.specs.Phases.{wants, seeking}
-use Rattle.sessions.specs.Walks.{Cleaned}
 use Rattle.sessions.proofs.SmtpTurns.{seeking-found, seeking-on}
 use Rattle.sessions.proofs.Steps.{Looped, not-yet, here, read-stop, walked}
 use Rattle.sessions.proofs.smtp.read_to_from.Statement.{statement}

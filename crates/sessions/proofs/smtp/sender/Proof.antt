@@ -1,8 +1,8 @@
 -- `sessions::smtp::sender` meets its contract: a line, tried as sender. Assumes nothing.
 use native.Mathlib.Omega.{arith}
 use borrow.Author.Needs.{needs}
+use Rattle.reads.specs.Contracts.{Cleaned}
 use Rattle.rules.specs.Phases.{wants, sender}
-use Rattle.sessions.specs.Walks.{Cleaned}
 use Rattle.sessions.proofs.SmtpTurns.{sender-tried}
 use Rattle.sessions.proofs.Steps.{read-stop}
 use Rattle.sessions.proofs.smtp.sender.Statement.{statement}

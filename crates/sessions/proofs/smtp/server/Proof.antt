@@ -33,8 +33,9 @@ note-line-requires c κs = (omega arith, c .before .loop .inv .walks .moved .1)
 -- the line stopped
 returns : tie.Need-returns Inv-loop μ-loop
 returns c =
-    let called = c .before .before .before .before .before in
-    walked {to = λ q. reads reply} (called .before .before .loop .inv .walks) (reply-stop (rw (c .before .a .given .1) at (called .note-line .ensures))) .is
+    let called = c .before .before .before .before .before .before in
+    let stop = rw (c .before .before .a .given .1) at (called .note-line .ensures) in
+    c .answer .ensures _ ∙ walked {to = λ q. reads reply} (called .before .before .loop .inv .walks) (reply-stop stop) .is
 
 -- ---- the clean line lies inside the buffer
 sub-starts-with : tie.Need-sub-starts-with Inv-loop μ-loop
@@ -48,9 +49,10 @@ part-starts-with-end c =
 -- it begins 221
 returns-2 : tie.Need-returns-2 Inv-loop μ-loop
 returns-2 c =
-    let line = c .before .before .before .before .before .before in
-    let last = sym (c .before .before .starts-with .ensures) ∙ c .before .if1 .taken in
-    walked {to = λ q. reads reply} (line .before .before .before .before .before .before .loop .inv .walks) (reply-last (line-to line) last (c .stopped .ensures)) .is
+    let line = c .before .before .before .before .before .before .before in
+    let last = sym (c .before .before .before .starts-with .ensures) ∙ c .before .before .if1 .taken in
+    let inv = line .before .before .before .before .before .before .loop .inv in
+    c .answer2 .ensures _ ∙ walked {to = λ q. reads reply} (inv .walks) (reply-last (line-to line) last (c .before .stopped .ensures)) .is
 
 -- ---- it does not: the next one is read
 loop-less : tie.Need-loop-less Inv-loop μ-loop
@@ -77,6 +79,7 @@ server-spec =
     (λ c. not-yet (omega arith))
     note-line-requires
     (λ c. search needs)
+    (λ c κs. search needs)
     (λ c. search needs)
     returns
     (λ c. search needs)
@@ -84,6 +87,7 @@ server-spec =
     sub-starts-with
     part-starts-with-end
     (λ c. search needs)
+    (λ c κs. search needs)
     (λ c κs. search needs)
     (λ c κs. search needs)
     (λ c. search needs)

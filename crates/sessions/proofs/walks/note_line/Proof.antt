@@ -1,10 +1,10 @@
--- `sessions::reads::note_line` meets its contract: a clean line, and its event. Assumes nothing.
+-- `sessions::walks::note_line` meets its contract: a clean line, and its event. Assumes nothing.
 use native.Mathlib.Omega.{arith}
 use borrow.Author.Needs.{needs}
-use Rattle.sessions.specs.Walks.{Cleaned}
+use Rattle.reads.specs.Contracts.{Cleaned}
 use Rattle.sessions.proofs.Lines.{lined-to, lined-full, lined-short}
-use Rattle.sessions.proofs.reads.note_line.Statement.{statement}
-use Rattle.sessions.proofs.reads.note_line.Tie as tie
+use Rattle.sessions.proofs.walks.note_line.Statement.{statement}
+use Rattle.sessions.proofs.walks.note_line.Tie as tie
 
 -- behind `clean_line`'s answer `To(end, e)`: the line
 line-to : (c : tie.After-end) →

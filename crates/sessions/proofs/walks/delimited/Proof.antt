@@ -1,14 +1,15 @@
--- `sessions::reads::delimited` meets its contract, by whether there is a delimiter. Assumes nothing.
+-- `sessions::walks::delimited` meets its contract, by whether there is a delimiter. Assumes nothing.
 use mathlib.Core.Path.{sym, _∙_}
 use Prim.Native.Nat.{_+_}
 use native.Mathlib.Omega.{arith}
 use borrow.Author.Needs.{needs}
 use Rattle.reading.proofs.Words.{rest-is}
 use Rattle.reading.specs.Reading.{delimiter}
-use Rattle.sessions.specs.Walks.{Ends, piece}
+use Rattle.reads.specs.Contracts.{Ends}
+use Rattle.sessions.specs.Walks.{piece}
 use Rattle.sessions.proofs.Readings.{delimited-ends, delimited-stops}
-use Rattle.sessions.proofs.reads.delimited.Statement.{statement}
-use Rattle.sessions.proofs.reads.delimited.Tie as tie
+use Rattle.sessions.proofs.walks.delimited.Statement.{statement}
+use Rattle.sessions.proofs.walks.delimited.Tie as tie
 
 -- ---- there is one
 

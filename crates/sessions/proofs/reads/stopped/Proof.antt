@@ -1,7 +1,0 @@
--- `sessions::reads::stopped` meets its contract. Assumes nothing.
-use mathlib.Core.Path.{refl}
-use Rattle.sessions.proofs.reads.stopped.Statement.{statement}
-use Rattle.sessions.proofs.reads.stopped.Tie as tie
-
-pub stopped-spec : {M : Type 1} → statement M
-stopped-spec = tie.close (tie.spec (λ c. record { result = refl; place = refl; count = refl }))
