@@ -178,7 +178,7 @@ const WIDE: [&str; 16] = [
 ];
 
 /// Puts in characters above 127, and now and then a lone byte that makes the line no UTF-8.
-fn high_bytes(rng: &mut Rng, bytes: &mut Vec<u8>) {
+pub fn high_bytes(rng: &mut Rng, bytes: &mut Vec<u8>) {
     for _ in 0..rng.below(4) {
         let at = rng.below(bytes.len() + 1);
         if rng.chance(5) {

@@ -2,11 +2,14 @@
 
 use crate::Words;
 use crate::case::{Answer, Bytes, Case, ENOUGH};
+use crate::cut::{self, Cut};
 use crate::judge::{Judge, PlainJudge, SwiftJudge};
 use crate::packet::Packet;
 use crate::reading;
+use crate::windows::Shown;
 use crate::wrong::Wrong;
-use std::io::{BufWriter, Read, Write};
+use crate::wrong_windows::Bend;
+use std::io::{BufWriter, Error, Read, Write};
 use std::time::{Duration, Instant};
 
 const ENTRIES: &[u8] = b"SsPI";
@@ -61,6 +64,34 @@ pub fn batch(path: &str, second: bool) -> Result<bool, String> {
         write!(out, "{answer}").map_err(|why| why.to_string())?;
     }
     Ok(judged)
+}
+
+/// Every record of a file of cut sessions: each window's answer, then the table and the last answer.
+pub fn batch_windows(path: &str) -> Result<bool, String> {
+    let bytes = read_file(path)?;
+    let mut from = Bytes(&bytes);
+    let mut out = BufWriter::new(std::io::stdout().lock());
+    let mut number = 0;
+    while !from.0.is_empty() {
+        let cut = cut::read(&mut from).ok_or(format!("{path}: record {number} is broken"))?;
+        number += 1;
+        write_windows(&mut out, &cut).map_err(|why| why.to_string())?;
+    }
+    Ok(true)
+}
+
+fn write_windows(out: &mut impl Write, cut: &Cut) -> Result<(), Error> {
+    let mut answers = Vec::new();
+    let table = cut.show(Bend::Nothing, |_, shown, _| answers.push(shown));
+    answers.truncate(cut.lengths.len());
+    for Shown { result, place, count, taken } in &answers {
+        writeln!(out, "{taken} {result} {place} {count}")?;
+    }
+    let last = answers.last().copied().unwrap_or(Shown { result: 1, ..Shown::default() });
+    for event in table.chunks(4).take(last.count as usize) {
+        writeln!(out, "{} {} {} {}", event[0], event[1], event[2], event[3])?;
+    }
+    writeln!(out, "{} {} {}", last.result, last.place, last.count)
 }
 
 pub fn bench(entry: &str, path: &str, plain: bool) -> Result<bool, String> {

@@ -3,6 +3,7 @@
 mod case;
 mod choose;
 mod compare;
+mod cut;
 mod differences;
 mod direction;
 mod dnsudp;
@@ -20,10 +21,17 @@ mod reading;
 mod rng;
 mod selftest;
 mod sharp;
+mod sharp_windows;
+mod special;
 mod stored;
 mod stream;
 mod trace;
+mod windows;
+mod windows_compare;
+mod windows_forgets;
+mod windows_mail;
 mod wrong;
+mod wrong_windows;
 
 // The parser files look for these names at the root.
 use dnsudp::{DnsHeader, OptRR, Qtype, RR};
@@ -38,18 +46,24 @@ use std::process::ExitCode;
 const USAGE: &str = "usage:
   oracle list [--slots N] [--plain] [--no-overlays] [--any-length] a session from standard input
   oracle batch FILE [--second]                                     listings of a batch file; by the second reading
+  oracle batch --windows FILE                                      each window's answer of a file of cut sessions
   oracle bench ENTRY FILE [--plain]                                times one large session
   oracle race LIBRARY                                              the proved library's speed beside the Rust's
   oracle generate CASES OUT                                        a batch file of made cases
+  oracle generate --cuts CASES OUT                                 a file of made sessions cut into windows
   oracle compare CASES                                             the oracle against the second reading
   oracle compare FILE                                              the same over a batch file
-  oracle sharp CASES                                               wrong readings told by the cases
+  oracle windows CASES                                             cut sessions by windows against one call
+  oracle sharp [--windows] CASES                                   wrong readings told by the cases; of document 02's W2
   oracle choose CASES OUT                                          a small batch file that meets much
   oracle answers FILE OUT                                          a batch file with the oracle's answers
   oracle check FILE                                                replays a file with answers
   oracle show FILE                                                 a file with answers as text
   oracle selftest                                                  document 01's examples, the findings, and docs/DIFFERENCES.md
-CASES: [--seed N] [--count N] [--first N, for generate and compare] [--any-byte | --short]";
+CASES: [--seed N] [--count N] [--first N, for generate, compare and windows] [--any-byte | --short]";
+
+const FLAGS: [&str; 8] =
+    ["--plain", "--no-overlays", "--any-length", "--any-byte", "--short", "--second", "--windows", "--cuts"];
 
 /// The words of the command line: flags, flags with a number, and the rest.
 pub struct Words {
@@ -67,9 +81,7 @@ impl Words {
                     let number = words.next()?.parse().ok()?;
                     parsed.numbers.push((word, number));
                 }
-                "--plain" | "--no-overlays" | "--any-length" | "--any-byte" | "--short" | "--second" => {
-                    parsed.flags.push(word)
-                }
+                flag if FLAGS.contains(&flag) => parsed.flags.push(word),
                 _ if word.starts_with("--") => return None,
                 _ => parsed.rest.push(word),
             }
@@ -109,15 +121,19 @@ fn run(words: &Words) -> Result<bool, String> {
     let rest: Vec<&str> = words.rest.iter().map(String::as_str).collect();
     match rest[..] {
         ["list"] => list::list(words),
+        ["batch", file] if words.has("--windows") => list::batch_windows(file),
         ["batch", file] => list::batch(file, words.has("--second")),
         ["bench", entry, file] => list::bench(entry, file, words.has("--plain")),
         ["race", library] => race::run(library),
+        ["generate", out] if words.has("--cuts") => stored::generate_cuts(words.generator(), words.numbers(), out),
         ["generate", out] => stored::generate(words.generator(), words.numbers(), out),
         ["compare"] => {
             let generator = words.generator();
             Ok(compare::run(words.numbers().map(|number| generator.case(number))))
         }
         ["compare", file] => Ok(compare::run(list::cases(file)?.into_iter())),
+        ["windows"] => Ok(windows_compare::run(words.generator(), words.numbers())),
+        ["sharp"] if words.has("--windows") => Ok(sharp_windows::run(words.generator(), words.count())),
         ["sharp"] => Ok(sharp::run(words.generator(), words.count())),
         ["choose", out] => stored::choose(words.generator(), words.count(), out),
         ["answers", file, out] => stored::answers(file, out),

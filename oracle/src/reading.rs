@@ -20,9 +20,22 @@ pub fn answer(case: &Case, wrong: Wrong) -> Answer {
     Answer::Session(session(case.entry, &case.bytes, case.slots(), wrong))
 }
 
+/// The read that an incomplete session waits in.
+#[derive(Clone, Copy, PartialEq, Eq, Debug)]
+pub enum Waits {
+    Sized,
+    /// A preamble or content.
+    Region,
+    Other,
+}
+
 pub fn session(entry: u8, bytes: &[u8], slots: usize, wrong: Wrong) -> Listing {
+    waiting_session(entry, bytes, slots, wrong).0
+}
+
+pub fn waiting_session(entry: u8, bytes: &[u8], slots: usize, wrong: Wrong) -> (Listing, Waits) {
     if bytes.len() > LONGEST {
-        return Listing { result: 2, ..Listing::default() };
+        return (Listing { result: 2, ..Listing::default() }, Waits::Other);
     }
     let mut reader = Reader::new(entry, bytes, slots, wrong);
     let ended = match entry {
@@ -37,7 +50,7 @@ pub fn session(entry: u8, bytes: &[u8], slots: usize, wrong: Wrong) -> Listing {
         (Err((1, _)), None) if wrong == Wrong::ShortAtEnd => (1, bytes.len()),
         (Err(stop), _) => stop,
     };
-    Listing { events: reader.events, result, place: place as u32 }
+    (Listing { events: reader.events, result, place: place as u32 }, reader.waits)
 }
 
 struct Head<'a> {
@@ -58,6 +71,7 @@ struct Reader<'a> {
     size: u64,
     header_at: usize,
     outermost: &'a [u8],
+    waits: Waits,
     // Only wrong readings ask for these: a refusal 10 put off, Content-Type seen in the header
     // before, where the mail's body began, the mail's encoding, the line that ended the skipping.
     late: Option<Stop>,
@@ -79,6 +93,7 @@ impl<'a> Reader<'a> {
             size: 0,
             header_at: 0,
             outermost: b"",
+            waits: Waits::Other,
             late: None,
             seen_before: false,
             body_at: 0,
@@ -191,6 +206,7 @@ impl<'a> Reader<'a> {
         let region = self.at;
         let mut places = region..self.bytes.len();
         let Some(place) = places.find(|&place| self.holds_delimiter(place, boundary)) else {
+            self.waits = Waits::Region;
             let at_end = self.is(Wrong::ShortDelimiterAtEnd);
             return Err((1, if at_end { self.bytes.len() } else { region }));
         };
@@ -399,6 +415,9 @@ impl<'a> Reader<'a> {
         }
         self.put(2, from, 0, 0)?;
         let taken = self.take(length);
+        if taken.is_err() {
+            self.waits = Waits::Sized;
+        }
         if taken.is_err() && self.is(Wrong::StartDropped) {
             self.events.pop();
         }
@@ -536,6 +555,9 @@ impl<'a> Reader<'a> {
             return Err((9, if self.is(Wrong::NinePlace) { self.at - 2 } else { self.at }));
         }
         let boundary = open[open.len() - 1];
+        if boundary.len() > 70 && self.is(Wrong::LongRefuses) {
+            return Err((12, self.at));
+        }
         let outer = open[open.len().saturating_sub(2)];
         self.delimiter(if self.is(Wrong::PreambleOuter) { outer } else { boundary })?;
         let mut more = self.first_part(boundary)?;

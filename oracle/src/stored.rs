@@ -3,6 +3,7 @@
 use crate::case::{Answer, Bytes, Case, readable, write_answer, write_case};
 use crate::choose;
 use crate::compare::Both;
+use crate::cut::{self, Cut};
 use crate::generate::Generator;
 use crate::judge::SwiftJudge;
 use crate::list::{cases, read_file};
@@ -19,11 +20,19 @@ fn save(path: &str, bytes: &[u8]) -> Result<bool, String> {
 }
 
 pub fn generate(generator: Generator, numbers: Range<u64>, path: &str) -> Result<bool, String> {
+    write_records(numbers, path, |record, number| write_case(record, &generator.case(number)))
+}
+
+pub fn generate_cuts(generator: Generator, numbers: Range<u64>, path: &str) -> Result<bool, String> {
+    write_records(numbers, path, |record, number| cut::write(record, &Cut::made(&generator, number)))
+}
+
+fn write_records(numbers: Range<u64>, path: &str, write: impl Fn(&mut Vec<u8>, u64)) -> Result<bool, String> {
     let failed = |why: Error| format!("{path}: {why}");
     let mut out = BufWriter::new(File::create(path).map_err(failed)?);
     for number in numbers {
         let mut record = Vec::new();
-        write_case(&mut record, &generator.case(number));
+        write(&mut record, number);
         out.write_all(&record).map_err(failed)?;
     }
     out.flush().map_err(failed)?;

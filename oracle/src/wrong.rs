@@ -9,6 +9,9 @@ macro_rules! wrongs {
             /// Right too, but for valid UTF-8 lines the append test and size count white space
             /// above 127 as the Rust does. Tells findings apart.
             WideWhite,
+            /// Right too, but a boundary over 70 bytes refuses with 12, as document 02 has it for
+            /// sessions by windows.
+            LongRefuses,
             $($name),*
         }
 

@@ -1,0 +1,164 @@
+//! Sessions cut into windows: by seed and number, as records of a file, and shown piece by piece.
+
+use crate::case::{Bytes, Case, write_case};
+use crate::generate::{Generator, Kind, high_bytes};
+use crate::rng::Rng;
+use crate::special;
+use crate::windows::{LONGEST, Session, Shown};
+use crate::wrong_windows::Bend;
+
+/// Where no window has written.
+pub const UNTOUCHED: u32 = 0xAAAA_AAAA;
+
+/// Keeps the numbers of the cuts apart from those of the cases.
+const OWN: u64 = 0x5749_4E44_4F57_5321;
+
+/// Byte by byte only up to this length.
+const SHORT: usize = 600;
+
+#[derive(Clone)]
+pub struct Cut {
+    pub case: Case,
+    /// The new bytes of each window, all bytes of the session together.
+    pub lengths: Vec<usize>,
+    /// The session's limit; the real one but in some cases, and always in files.
+    pub limit: usize,
+}
+
+impl Cut {
+    /// Case `number` cut up. Every fourth case, and what was a direction case, is made for windows.
+    pub fn made(generator: &Generator, number: u64) -> Cut {
+        let mut rng = Rng::new(generator.seed ^ OWN, number);
+        let mut case = generator.case(number);
+        if number % 4 == 3 || case.entry == b'D' {
+            case = special::case(&mut rng);
+            if generator.kind == Kind::AnyByte {
+                high_bytes(&mut rng, &mut case.bytes);
+            }
+        }
+        let lengths = lengths(&mut rng, &case.bytes);
+        let limit = if rng.chance(10) { some_limit(&mut rng, &lengths) } else { LONGEST };
+        Cut { case, lengths, limit }
+    }
+
+    /// The same session cut another way.
+    pub fn another(&self, rng: &mut Rng) -> Cut {
+        Cut { lengths: lengths(rng, &self.case.bytes), ..self.clone() }
+    }
+
+    /// Where each window ends.
+    pub fn ends(&self) -> impl Iterator<Item = usize> + '_ {
+        self.lengths.iter().scan(0, |end, length| {
+            *end += length;
+            Some(*end)
+        })
+    }
+
+    /// Slots that can matter: an event takes a byte at least.
+    pub fn slots(&self) -> usize {
+        self.case.slots().min(self.case.bytes.len())
+    }
+
+    /// Shows every window; `seen` is told its number, its answer and the table. Gives the table.
+    pub fn show(&self, bend: Bend, mut seen: impl FnMut(usize, Shown, &[u32])) -> Vec<u32> {
+        let mut table = vec![UNTOUCHED; self.slots() * 4];
+        let mut session = Session::begin(self.case.entry, self.limit, bend);
+        let mut from = 0;
+        let mut ended = false;
+        for (number, end) in self.ends().enumerate() {
+            let shown = session.show(&self.case.bytes[from..end], &mut table);
+            from += shown.taken as usize;
+            ended = shown.result != 1;
+            seen(number, shown, &table);
+        }
+        if ended {
+            self.show_more(session, from, &mut table, seen);
+        }
+        table
+    }
+
+    /// Two windows behind the end, the second with a larger table.
+    fn show_more(
+        &self,
+        mut session: Session,
+        from: usize,
+        table: &mut Vec<u32>,
+        mut seen: impl FnMut(usize, Shown, &[u32]),
+    ) {
+        let number = self.lengths.len();
+        seen(number, session.show(b"", table), table);
+        table.extend([UNTOUCHED; 35]);
+        seen(number + 1, session.show(&self.case.bytes[from..], table), table);
+    }
+}
+
+fn some_limit(rng: &mut Rng, lengths: &[usize]) -> usize {
+    let windows = rng.below(lengths.len() + 1);
+    let end: usize = lengths[..windows].iter().sum();
+    (end + rng.below(4)).saturating_sub(1)
+}
+
+fn lengths(rng: &mut Rng, bytes: &[u8]) -> Vec<usize> {
+    let all = bytes.len();
+    let mut lengths = match rng.below(16) {
+        0 => vec![all],
+        1 | 2 if all <= SHORT => vec![1; all],
+        1..=3 => pieces(all, || 7),
+        4 => pieces(all, || 100),
+        5 => pieces(all, || 1460),
+        6 | 7 => pieces(all, || 1 + rng.below(all)),
+        8 => pieces(all, || 1 + rng.below(4)),
+        9 | 10 => pieces(all, || 1 + rng.below(40)),
+        11 => behind(bytes, b"\n"),
+        12 => behind(bytes, b"\r"),
+        13 => behind(bytes, b"-"),
+        14 => behind(bytes, b"\r\n-.:q"),
+        _ => pieces(all, || 1 + rng.below(all / 3 + 1)),
+    };
+    if rng.chance(30) {
+        empty_between(rng, &mut lengths);
+    }
+    if lengths.is_empty() {
+        lengths.push(0);
+    }
+    lengths
+}
+
+fn pieces(all: usize, mut length: impl FnMut() -> usize) -> Vec<usize> {
+    let mut lengths = Vec::new();
+    let mut left = all;
+    while left > 0 {
+        let piece = length().min(left);
+        lengths.push(piece);
+        left -= piece;
+    }
+    lengths
+}
+
+/// Cuts behind every byte of these.
+fn behind(bytes: &[u8], these: &[u8]) -> Vec<usize> {
+    bytes.split_inclusive(|b| these.contains(b)).map(<[u8]>::len).collect()
+}
+
+fn empty_between(rng: &mut Rng, lengths: &mut Vec<usize>) {
+    for at in (0..=lengths.len()).rev() {
+        if rng.chance(20) {
+            lengths.insert(at, 0);
+        }
+    }
+}
+
+pub fn write(out: &mut Vec<u8>, cut: &Cut) {
+    write_case(out, &cut.case);
+    out.extend((cut.lengths.len() as u32).to_le_bytes());
+    cut.lengths.iter().for_each(|length| out.extend((*length as u32).to_le_bytes()));
+}
+
+pub fn read(from: &mut Bytes) -> Option<Cut> {
+    let case = from.case().filter(|case| case.entry != b'D')?;
+    let count = from.number()?;
+    let lengths: Option<Vec<usize>> = (0..count).map(|_| from.number().map(|length| length as usize)).collect();
+    let cut = Cut { case, lengths: lengths?, limit: LONGEST };
+    let whole = cut.lengths.iter().sum::<usize>() == cut.case.bytes.len();
+    whole.then_some(cut)
+}

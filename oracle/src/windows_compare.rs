@@ -1,0 +1,205 @@
+//! Sessions by windows against one call on the bytes shown so far, over cut cases.
+
+use crate::case::{Answer, Event, Listing, readable};
+use crate::cut::{Cut, UNTOUCHED};
+use crate::generate::{Generator, Kind};
+use crate::judge::SwiftJudge;
+use crate::reading::{self, Waits};
+use crate::rng::Rng;
+use crate::windows::{LONGEST, Shown};
+use crate::wrong::Wrong;
+use crate::wrong_windows::Bend;
+use std::collections::BTreeMap;
+use std::ops::Range;
+
+/// Sessions up to this length are held against one call at every window.
+const SMALL: usize = 200;
+
+/// What one call on the bytes shown so far says, and how much must be taken in all by then; behind
+/// a refusal that is as much as before.
+struct Wanted {
+    listing: Listing,
+    sum: Option<usize>,
+}
+
+/// The answers of one case, by the Rust (for bytes above 127 the second reading) and document 02.
+pub struct Checker<'a> {
+    cut: &'a Cut,
+    wanted: Vec<Option<Wanted>>,
+}
+
+impl<'a> Checker<'a> {
+    pub fn new(cut: &'a Cut, rust: Option<&SwiftJudge>) -> Result<Checker<'a>, String> {
+        let ends: Vec<usize> = cut.ends().collect();
+        let stride = if cut.case.bytes.len() <= SMALL { 1 } else { 1 + ends.len() / 8 };
+        let first_over = ends.iter().position(|&end| end > cut.limit);
+        let over = match first_over {
+            Some(at) => {
+                let before = one_call(cut, at.checked_sub(1).map_or(0, |at| ends[at]), rust)?;
+                (before.listing.result == 1).then_some((at, before.listing.events))
+            }
+            None => None,
+        };
+        let mut wanted = Vec::new();
+        for (number, &end) in ends.iter().enumerate() {
+            let chosen = number % stride == 0 || number + 1 == ends.len() || first_over == Some(number);
+            wanted.push(match &over {
+                _ if !chosen => None,
+                Some((at, events)) if number >= *at => Some(beyond(events)),
+                _ => Some(one_call(cut, end, rust)?),
+            });
+        }
+        Ok(Checker { cut, wanted })
+    }
+
+    /// How the reading parts from what is wanted.
+    pub fn difference(&self, bend: Bend) -> Option<String> {
+        let mut found = None;
+        let (mut sum, mut before) = (0, Shown { result: 1, ..Shown::default() });
+        let ends: Vec<usize> = self.cut.ends().chain([self.cut.case.bytes.len(); 2]).collect();
+        let windows = self.cut.lengths.len();
+        self.cut.show(bend, |number, shown, table| {
+            let room = if number == windows { 0 } else { ends[number].saturating_sub(sum) };
+            sum += shown.taken as usize;
+            let why = always(before, shown, room, sum).or_else(|| {
+                let wanted = self.wanted.get(number.min(windows - 1))?.as_ref()?;
+                parts(wanted, shown, sum, table)
+            });
+            before = shown;
+            found = found.take().or(why.map(|why| format!("window {number}: {why}, answered {shown:?}")));
+        });
+        found
+    }
+
+    fn result(&self) -> u32 {
+        let last = self.wanted.last().and_then(Option::as_ref);
+        last.map_or(1, |wanted| wanted.listing.result)
+    }
+}
+
+fn beyond(events: &[Event]) -> Wanted {
+    Wanted {
+        listing: Listing { events: events.to_vec(), result: 2, place: 0 },
+        sum: None,
+    }
+}
+
+/// One call on the session's first bytes, 12 laid over it; the judge must agree but for 12.
+fn one_call(cut: &Cut, end: usize, rust: Option<&SwiftJudge>) -> Result<Wanted, String> {
+    let (entry, bytes, slots) = (cut.case.entry, &cut.case.bytes[..end], cut.slots());
+    let (listing, waits) = reading::waiting_session(entry, bytes, slots, Wrong::LongRefuses);
+    let judged = match rust {
+        Some(judge) => judge.session(entry, bytes, slots, Vec::new()).0,
+        None => Answer::Session(reading::session(entry, bytes, slots, Wrong::Nothing)),
+    };
+    let agree = match &judged {
+        Answer::Session(judged) if listing.result == 12 => judged.events.starts_with(&listing.events),
+        Answer::Session(judged) => *judged == listing,
+        _ => false,
+    };
+    if !agree {
+        return Err(format!("one call on {end} bytes: the judge says\n{judged}"));
+    }
+    let place = listing.place as usize;
+    let sum = match (listing.result, waits) {
+        (1, Waits::Sized) => Some(end),
+        (1, Waits::Region) => {
+            let lines = bytes[place..].iter().rposition(|&b| b == b'\n');
+            Some(place + lines.map_or(0, |feed| feed + 1))
+        }
+        (0 | 1, _) => Some(place),
+        _ => None,
+    };
+    Ok(Wanted { listing, sum })
+}
+
+/// What holds of every window whatever it shows.
+fn always(before: Shown, shown: Shown, room: usize, sum: usize) -> Option<String> {
+    let again = Shown { taken: 0, ..before };
+    let why = match shown.result {
+        _ if shown.taken as usize > room => "more is taken than shown",
+        _ if before.result != 1 && shown != again => "the answer is not repeated",
+        _ if shown.count < before.count => "events are lost",
+        0 if before.result == 1 && sum != shown.place as usize => "done takes up to its place",
+        1 if sum < shown.place as usize => "the place is behind what is taken",
+        2.. if shown.taken > 0 => "a refusal takes",
+        _ => return None,
+    };
+    Some(why.to_string())
+}
+
+fn parts(wanted: &Wanted, shown: Shown, sum: usize, table: &[u32]) -> Option<String> {
+    let Listing { events, result, place } = &wanted.listing;
+    if (*result, *place, events.len() as u32) != (shown.result, shown.place, shown.count) {
+        return Some(format!("one call says {result} {place} {}", events.len()));
+    }
+    let (listed, rest) = table.split_at(events.len() * 4);
+    if *listed != *events.as_flattened() {
+        return Some("other events than one call's".to_string());
+    }
+    if rest.iter().any(|&number| number != UNTOUCHED) {
+        return Some("the table is written behind its events".to_string());
+    }
+    let wanted = wanted.sum.filter(|wanted| *wanted != sum)?;
+    Some(format!("{sum} bytes are taken, {wanted} should be"))
+}
+
+/// A session that ends with 12 has the same answer and table however it is cut.
+fn cut_matters(cut: &Cut, seed: u64, number: u64) -> Option<String> {
+    let last = |cut: &Cut| {
+        let mut last = Shown::default();
+        let table = cut.show(Bend::Nothing, |_, shown, _| last = Shown { taken: 0, ..shown });
+        (last, table)
+    };
+    let cut = Cut { limit: LONGEST, ..cut.clone() };
+    let another = cut.another(&mut Rng::new(!seed, number));
+    (last(&cut) != last(&another)).then(|| format!("another answer if cut by {:?}", another.lengths))
+}
+
+pub fn describe(cut: &Cut) -> String {
+    let limit = if cut.limit == LONGEST { String::new() } else { format!(", limit {}", cut.limit) };
+    format!(
+        "{} slots {}{limit} {}\nnew bytes of each window: {:?}",
+        cut.case.entry as char,
+        cut.slots(),
+        readable(&cut.case.bytes),
+        cut.lengths
+    )
+}
+
+/// The Rust judges ASCII; sessions with any byte go by the second reading.
+pub fn judge(kind: Kind) -> Option<SwiftJudge> {
+    (kind != Kind::AnyByte).then(|| SwiftJudge::new(true))
+}
+
+/// Runs the cases, prints counts by result and the first case that parts; gives whether none does.
+pub fn run(generator: Generator, numbers: Range<u64>) -> bool {
+    let rust = judge(generator.kind);
+    let mut tally: BTreeMap<(char, u32), u64> = BTreeMap::new();
+    let (mut count, mut windows, mut differences) = (0u64, 0, 0u64);
+    for number in numbers {
+        let cut = Cut::made(&generator, number);
+        count += 1;
+        windows += cut.lengths.len();
+        let why = match Checker::new(&cut, rust.as_ref()) {
+            Err(why) => Some(why),
+            Ok(checker) => {
+                *tally.entry((cut.case.entry as char, checker.result())).or_default() += 1;
+                let long = checker.result() == 12;
+                let parts = checker.difference(Bend::Nothing);
+                parts.or_else(|| if long { cut_matters(&cut, generator.seed, number) } else { None })
+            }
+        };
+        if let Some(why) = why {
+            differences += 1;
+            if differences == 1 {
+                println!("case {number}: {why}\n{}", describe(&cut));
+            }
+        }
+    }
+    for ((entry, result), count) in &tally {
+        println!("  {entry} result {result}: {count}");
+    }
+    println!("{count} cases, {windows} windows, {differences} differences");
+    differences == 0
+}
