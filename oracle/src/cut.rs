@@ -16,6 +16,9 @@ const OWN: u64 = 0x5749_4E44_4F57_5321;
 /// Byte by byte only up to this length.
 const SHORT: usize = 600;
 
+/// Sessions up to this length are held against one call at every window.
+const SMALL: usize = 200;
+
 #[derive(Clone)]
 pub struct Cut {
     pub case: Case,
@@ -23,6 +26,8 @@ pub struct Cut {
     pub lengths: Vec<usize>,
     /// The session's limit; the real one but in some cases, and always in files.
     pub limit: usize,
+    /// The slots lent with each window, where they change; in files they never do.
+    pub tables: Vec<usize>,
 }
 
 impl Cut {
@@ -37,8 +42,26 @@ impl Cut {
             }
         }
         let lengths = lengths(&mut rng, &case.bytes);
-        let limit = if rng.chance(10) { some_limit(&mut rng, &lengths) } else { LONGEST };
-        Cut { case, lengths, limit }
+        let mut cut = Cut::plain(case, lengths);
+        match rng.below(20) {
+            0 | 1 => cut.limit = some_limit(&mut rng, &cut.lengths),
+            2 if cut.is_small() => cut.tables = some_tables(&mut rng, cut.lengths.len()),
+            _ => {}
+        }
+        cut
+    }
+
+    /// With the real limit and one table, as a file has it.
+    pub fn plain(case: Case, lengths: Vec<usize>) -> Cut {
+        Cut { case, lengths, limit: LONGEST, tables: Vec::new() }
+    }
+
+    pub fn is_plain(&self) -> bool {
+        self.limit == LONGEST && self.tables.is_empty()
+    }
+
+    pub fn is_small(&self) -> bool {
+        self.case.bytes.len() <= SMALL
     }
 
     /// The same session cut another way.
@@ -59,14 +82,20 @@ impl Cut {
         self.case.slots().min(self.case.bytes.len())
     }
 
+    /// How many numbers are lent with a window.
+    fn lent(&self, window: usize) -> usize {
+        self.tables.get(window).map_or(self.slots() * 4, |slots| slots * 4 + window % 4)
+    }
+
     /// Shows every window; `seen` is told its number, its answer and the table. Gives the table.
     pub fn show(&self, bend: Bend, mut seen: impl FnMut(usize, Shown, &[u32])) -> Vec<u32> {
-        let mut table = vec![UNTOUCHED; self.slots() * 4];
+        let most = (0..self.lengths.len()).map(|window| self.lent(window)).max().unwrap_or(0);
+        let mut table = vec![UNTOUCHED; most];
         let mut session = Session::begin(self.case.entry, self.limit, bend);
         let mut from = 0;
         let mut ended = false;
         for (number, end) in self.ends().enumerate() {
-            let shown = session.show(&self.case.bytes[from..end], &mut table);
+            let shown = session.show(&self.case.bytes[from..end], &mut table[..self.lent(number)]);
             from += shown.taken as usize;
             ended = shown.result != 1;
             seen(number, shown, &table);
@@ -90,6 +119,10 @@ impl Cut {
         table.extend([UNTOUCHED; 35]);
         seen(number + 1, session.show(&self.case.bytes[from..], table), table);
     }
+}
+
+fn some_tables(rng: &mut Rng, windows: usize) -> Vec<usize> {
+    (0..windows).map(|_| if rng.chance(60) { SMALL } else { rng.below(16) }).collect()
 }
 
 fn some_limit(rng: &mut Rng, lengths: &[usize]) -> usize {
@@ -148,6 +181,27 @@ fn empty_between(rng: &mut Rng, lengths: &mut Vec<usize>) {
     }
 }
 
+fn long(entry: u8, front: &[u8], filler: &[u8], lengths: &[usize]) -> Cut {
+    let all = lengths.iter().sum();
+    let bytes = front.iter().chain(filler.iter().cycle()).copied().take(all).collect();
+    Cut::plain(Case { entry, slots: 8, bytes }, lengths.to_vec())
+}
+
+/// Sessions around the limit: met exactly and passed by a line never finished, passed at once, met
+/// by a sized body, by lines, and passed behind done and behind a refusal.
+pub fn around_limit() -> Vec<Cut> {
+    let quarter = LONGEST / 4;
+    let literal = b"a APPEND {20000000}\r\nT: u\r\n\r\n";
+    vec![
+        long(b's', b"a\n", b"x", &[2, LONGEST - 2, 0, 1, 0]),
+        long(b's', b"a\n", b"x", &[LONGEST + 1]),
+        long(b'I', literal, b"x", &[10, 19, 8_000_000, LONGEST - 8_000_029, 1, 0]),
+        long(b'S', b"HELO\nxxxxxxxxxx\n", b"fifteen bytes..\n", &[quarter, quarter, quarter, quarter, 0, 1, 1]),
+        long(b's', b"221 bye\n", b"x", &[8, LONGEST, 5]),
+        long(b'S', b"NOOP\n", b"x", &[5, LONGEST]),
+    ]
+}
+
 pub fn write(out: &mut Vec<u8>, cut: &Cut) {
     write_case(out, &cut.case);
     out.extend((cut.lengths.len() as u32).to_le_bytes());
@@ -158,7 +212,7 @@ pub fn read(from: &mut Bytes) -> Option<Cut> {
     let case = from.case().filter(|case| case.entry != b'D')?;
     let count = from.number()?;
     let lengths: Option<Vec<usize>> = (0..count).map(|_| from.number().map(|length| length as usize)).collect();
-    let cut = Cut { case, lengths: lengths?, limit: LONGEST };
+    let cut = Cut::plain(case, lengths?);
     let whole = cut.lengths.iter().sum::<usize>() == cut.case.bytes.len();
     whole.then_some(cut)
 }

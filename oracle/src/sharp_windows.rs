@@ -2,47 +2,96 @@
 
 use crate::cut::Cut;
 use crate::generate::Generator;
+use crate::judge::SwiftJudge;
 use crate::windows::Shown;
 use crate::windows_compare::{Checker, judge};
 use crate::wrong_windows::{BENDS, Bend};
 
+type Answers = (Vec<Shown>, Vec<u32>);
+
 /// Every answer and the table.
-fn answers(cut: &Cut, bend: Bend) -> (Vec<Shown>, Vec<u32>) {
+fn answers(cut: &Cut, bend: Bend) -> Answers {
     let mut all = Vec::new();
     let table = cut.show(bend, |_, shown, _| all.push(shown));
     (all, table)
 }
 
-/// How often a wrong reading was told: by its listing, and by one call and the rules of taking.
+/// What `batch --windows` prints: no window behind the last one, nothing behind the events.
+fn printed((mut all, mut table): Answers, windows: usize) -> Answers {
+    all.truncate(windows);
+    table.truncate(all.last().map_or(0, |shown| shown.count as usize * 4));
+    (all, table)
+}
+
+/// How often a wrong reading was told: by any answer, by what a file of cut sessions shows of it,
+/// by one call and the rules of taking.
 #[derive(Clone, Copy, Default)]
 struct Told {
     first: Option<u64>,
-    listing: u64,
+    all: u64,
+    in_file: u64,
     one_call: u64,
+}
+
+/// One case and the right reading's answers.
+struct Straight<'a> {
+    cut: &'a Cut,
+    checker: Option<Checker<'a>>,
+    filed: Cut,
+    answers: Answers,
+    in_file: Answers,
+}
+
+impl<'a> Straight<'a> {
+    fn new(cut: &'a Cut, rust: Option<&SwiftJudge>) -> Straight<'a> {
+        let filed = Cut::plain(cut.case.clone(), cut.lengths.clone());
+        Straight {
+            cut,
+            checker: Checker::new(cut, rust).ok(),
+            answers: answers(cut, Bend::Nothing),
+            in_file: printed(answers(&filed, Bend::Nothing), filed.lengths.len()),
+            filed,
+        }
+    }
+
+    fn parts(&self, bend: Bend) -> bool {
+        self.checker.as_ref().is_none_or(|checker| checker.difference(bend).is_some())
+    }
+
+    fn tell(&self, bend: Bend, number: u64, told: &mut Told) {
+        let bent = answers(self.cut, bend);
+        let differs = bent != self.answers;
+        if differs {
+            told.first.get_or_insert(number);
+            told.all += 1;
+            told.one_call += u64::from(self.parts(bend));
+        }
+        if differs || !self.cut.is_plain() {
+            let bent = if self.cut.is_plain() { bent } else { answers(&self.filed, bend) };
+            told.in_file += u64::from(printed(bent, self.filed.lengths.len()) != self.in_file);
+        }
+    }
 }
 
 /// Prints the table; tells whether every wrong reading was told and the right one never.
 pub fn run(generator: Generator, count: u64) -> bool {
     println!("# Sharpness: wrong readings of document 02's W2 told by cut cases\n");
     println!(
-        "Printed by `oracle sharp --windows --seed {} --count {count}`. Case numbers count from 0.",
+        "Printed by `oracle sharp --windows --seed {} --count {count}`. Case numbers count from 0. Told in a",
         generator.seed
     );
-    println!("The last column counts the cases in which one call and the rules of taking tell it too.\n");
+    println!("file: by what `batch --windows` prints of it, where the limit is the real one, the table is the same");
+    println!("for every window, and no window is shown behind the last. By one call: by `oracle windows`.\n");
     let rust = judge(generator.kind);
     let mut told = vec![Told::default(); BENDS.len()];
     let mut right = 0;
     for number in 0..count {
         let cut = Cut::made(&generator, number);
-        let checker = Checker::new(&cut, rust.as_ref()).ok();
-        let parts = |bend| checker.as_ref().is_none_or(|checker| checker.difference(bend).is_some());
-        right += u64::from(parts(Bend::Nothing));
-        let straight = answers(&cut, Bend::Nothing);
+        let straight = Straight::new(&cut, rust.as_ref());
+        right += u64::from(straight.parts(Bend::Nothing));
         for (told, (bend, entries, _)) in told.iter_mut().zip(BENDS) {
-            if entries.contains(cut.case.entry as char) && answers(&cut, *bend) != straight {
-                told.first.get_or_insert(number);
-                told.listing += 1;
-                told.one_call += u64::from(parts(*bend));
+            if entries.contains(cut.case.entry as char) {
+                straight.tell(*bend, number, told);
             }
         }
     }
@@ -57,12 +106,12 @@ pub fn run(generator: Generator, count: u64) -> bool {
 
 fn print_table(told: &[Told]) {
     println!(
-        "| No. | wrong reading | what it takes for right | entries | first case | cases that tell it | by one call |"
+        "| No. | wrong reading | what it takes for right | entries | first case | cases that tell it | in a file | by one call |"
     );
-    println!("|---|---|---|---|---|---|---|");
+    println!("|---|---|---|---|---|---|---|---|");
     for (at, (told, (bend, entries, text))) in told.iter().zip(BENDS).enumerate() {
         let first = told.first.map_or("NOT TOLD".to_string(), |number| number.to_string());
-        let Told { listing, one_call, .. } = told;
-        println!("| {} | {bend:?} | {text} | {entries} | {first} | {listing} | {one_call} |", at + 1);
+        let Told { all, in_file, one_call, .. } = told;
+        println!("| {} | {bend:?} | {text} | {entries} | {first} | {all} | {in_file} | {one_call} |", at + 1);
     }
 }

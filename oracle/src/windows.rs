@@ -227,6 +227,9 @@ pub struct Walk<'a> {
 impl<'a> Walk<'a> {
     fn run(&mut self) -> Stop {
         let count = self.session.count;
+        if count > self.slots() && self.is(Bend::TableShort) {
+            return (10, self.at());
+        }
         let stop = loop {
             if let Err(stop) = self.step() {
                 break stop;
@@ -284,12 +287,22 @@ impl<'a> Walk<'a> {
     pub(crate) fn put(&mut self, kind: u32, offset: usize, length: usize, encoding: u32) -> Step<()> {
         let front = if self.is(Bend::OffsetWindow) { self.session.taken } else { 0 };
         let event = [kind, offset.saturating_sub(front) as u32, length as u32, encoding];
-        let Some(slot) = self.table.chunks_exact_mut(4).nth(self.session.count) else {
+        if self.session.count >= self.slots() {
             return Err((10, offset));
-        };
-        slot.copy_from_slice(&event);
+        }
+        let slot = self.table.iter_mut().skip(self.session.count * 4);
+        slot.zip(event).for_each(|(number, value)| *number = value);
         self.session.count += 1;
         Ok(())
+    }
+
+    fn slots(&mut self) -> usize {
+        let slots = self.table.len() / 4;
+        match self.session.bend {
+            Bend::TableFirst => *self.session.past.slots.get_or_insert(slots),
+            Bend::TableOdd => self.table.len().div_ceil(4),
+            _ => slots,
+        }
     }
 
     // Reading

@@ -12,9 +12,6 @@ use crate::wrong_windows::Bend;
 use std::collections::BTreeMap;
 use std::ops::Range;
 
-/// Sessions up to this length are held against one call at every window.
-const SMALL: usize = 200;
-
 /// What one call on the bytes shown so far says, and how much must be taken in all by then; behind
 /// a refusal that is as much as before.
 struct Wanted {
@@ -30,25 +27,7 @@ pub struct Checker<'a> {
 
 impl<'a> Checker<'a> {
     pub fn new(cut: &'a Cut, rust: Option<&SwiftJudge>) -> Result<Checker<'a>, String> {
-        let ends: Vec<usize> = cut.ends().collect();
-        let stride = if cut.case.bytes.len() <= SMALL { 1 } else { 1 + ends.len() / 8 };
-        let first_over = ends.iter().position(|&end| end > cut.limit);
-        let over = match first_over {
-            Some(at) => {
-                let before = one_call(cut, at.checked_sub(1).map_or(0, |at| ends[at]), rust)?;
-                (before.listing.result == 1).then_some((at, before.listing.events))
-            }
-            None => None,
-        };
-        let mut wanted = Vec::new();
-        for (number, &end) in ends.iter().enumerate() {
-            let chosen = number % stride == 0 || number + 1 == ends.len() || first_over == Some(number);
-            wanted.push(match &over {
-                _ if !chosen => None,
-                Some((at, events)) if number >= *at => Some(beyond(events)),
-                _ => Some(one_call(cut, end, rust)?),
-            });
-        }
+        let wanted = if cut.tables.is_empty() { by_limit(cut, rust)? } else { by_tables(cut, rust)? };
         Ok(Checker { cut, wanted })
     }
 
@@ -77,16 +56,59 @@ impl<'a> Checker<'a> {
     }
 }
 
-fn beyond(events: &[Event]) -> Wanted {
-    Wanted {
-        listing: Listing { events: events.to_vec(), result: 2, place: 0 },
-        sum: None,
+fn refusal(events: &[Event], result: u32, place: u32) -> Wanted {
+    let listing = Listing { events: events.to_vec(), result, place };
+    Wanted { listing, sum: None }
+}
+
+/// All windows of a small session, some of a larger one. From the first window on that passes the
+/// limit it is 2, with the events of the windows before, unless the session has ended there.
+fn by_limit(cut: &Cut, rust: Option<&SwiftJudge>) -> Result<Vec<Option<Wanted>>, String> {
+    let ends: Vec<usize> = cut.ends().collect();
+    let stride = if cut.is_small() { 1 } else { 1 + ends.len() / 8 };
+    let first_over = ends.iter().position(|&end| end > cut.limit);
+    let mut beyond = None;
+    if let Some(at) = first_over {
+        let before = one_call(cut, at.checked_sub(1).map_or(0, |at| ends[at]), cut.slots(), rust)?.listing;
+        beyond = (before.result == 1).then_some((at, before.events));
     }
+    let mut all = Vec::new();
+    for (number, &end) in ends.iter().enumerate() {
+        let chosen = number % stride == 0 || number + 1 == ends.len() || first_over == Some(number);
+        all.push(match &beyond {
+            _ if !chosen => None,
+            Some((at, events)) if number >= *at => Some(refusal(events, 2, 0)),
+            _ => Some(one_call(cut, end, cut.slots(), rust)?),
+        });
+    }
+    Ok(all)
+}
+
+/// An event is due in the window in which one call first lists it, and needs a slot of the table
+/// lent with that window.
+fn by_tables(cut: &Cut, rust: Option<&SwiftJudge>) -> Result<Vec<Option<Wanted>>, String> {
+    let mut all = Vec::new();
+    let mut full: Option<Listing> = None;
+    let mut before = 0;
+    for (end, slots) in cut.ends().zip(&cut.tables) {
+        let wanted = one_call(cut, end, cut.case.bytes.len(), rust)?;
+        let events = &wanted.listing.events;
+        let room = before.max(*slots);
+        if full.is_none() && events.len() > room {
+            full = Some(refusal(&events[..room], 10, events[room][1]).listing);
+        }
+        before = events.len();
+        all.push(Some(match &full {
+            Some(listing) => refusal(&listing.events, 10, listing.place),
+            None => wanted,
+        }));
+    }
+    Ok(all)
 }
 
 /// One call on the session's first bytes, 12 laid over it; the judge must agree but for 12.
-fn one_call(cut: &Cut, end: usize, rust: Option<&SwiftJudge>) -> Result<Wanted, String> {
-    let (entry, bytes, slots) = (cut.case.entry, &cut.case.bytes[..end], cut.slots());
+fn one_call(cut: &Cut, end: usize, slots: usize, rust: Option<&SwiftJudge>) -> Result<Wanted, String> {
+    let (entry, bytes) = (cut.case.entry, &cut.case.bytes[..end]);
     let (listing, waits) = reading::waiting_session(entry, bytes, slots, Wrong::LongRefuses);
     let judged = match rust {
         Some(judge) => judge.session(entry, bytes, slots, Vec::new()).0,
@@ -151,15 +173,20 @@ fn cut_matters(cut: &Cut, seed: u64, number: u64) -> Option<String> {
         let table = cut.show(Bend::Nothing, |_, shown, _| last = Shown { taken: 0, ..shown });
         (last, table)
     };
-    let cut = Cut { limit: LONGEST, ..cut.clone() };
+    let cut = Cut::plain(cut.case.clone(), cut.lengths.clone());
     let another = cut.another(&mut Rng::new(!seed, number));
     (last(&cut) != last(&another)).then(|| format!("another answer if cut by {:?}", another.lengths))
 }
 
 pub fn describe(cut: &Cut) -> String {
     let limit = if cut.limit == LONGEST { String::new() } else { format!(", limit {}", cut.limit) };
+    let tables = if cut.tables.is_empty() {
+        String::new()
+    } else {
+        format!("\nslots of each: {:?}", cut.tables)
+    };
     format!(
-        "{} slots {}{limit} {}\nnew bytes of each window: {:?}",
+        "{} slots {}{limit} {}\nnew bytes of each window: {:?}{tables}",
         cut.case.entry as char,
         cut.slots(),
         readable(&cut.case.bytes),

@@ -14,6 +14,8 @@ pub struct Past {
     pub size: u64,
     /// Up to where a body is listed in pieces.
     pub listed: usize,
+    /// The slots of the first table lent.
+    pub slots: Option<usize>,
     /// The first of two bytes, taken alone.
     pub held: Option<u8>,
     /// Where the literal's rest began that is skipped in pieces.
@@ -51,7 +53,14 @@ impl Session {
     }
 
     fn forget_sized(&mut self, table: &mut [u32]) {
-        let Phase::Sized { began, .. } = self.phase else { return };
+        let began = match self.phase {
+            Phase::Sized { began, .. } => began,
+            Phase::Offered { .. } if self.is(Bend::OfferedLost) => {
+                self.phase = Phase::Offered { size: 0 };
+                return;
+            }
+            _ => return,
+        };
         match self.bend {
             Bend::SizedWindow => self.phase = Phase::Sized { began, left: self.past.size },
             Bend::StartAgain => {

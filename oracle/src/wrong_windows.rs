@@ -50,6 +50,9 @@ bends! {
     PartPieces "SPI" "a part body is listed window by window"
     StartAgain "I" "each window of a sized body lists its start"
     CountAnew "SsPI" "each window lists from the table's front"
+    TableFirst "SsPI" "the slots of the first table lent count"
+    TableShort "SsPI" "a table below the events kept refuses though none is due"
+    TableOdd "SsPI" "a slot that the table holds in part counts"
     // 12
     TwelveFirst "SPI" "12 comes before 9"
     TwelveAtLine "SPI" "12 is given at the line that supplies the boundary"
@@ -93,6 +96,7 @@ bends! {
     LevelLost "SPI" "levels between the outermost and the innermost are lost at a window's end"
     PhaseLost "SsPI" "each window begins the session anew"
     EmptyAnew "SsPI" "a window without bytes begins the session anew"
+    OfferedLost "I" "an append's size is lost while the line behind it is waited for"
     PassedZero "I" "a literal that its header has passed has a rest of 0 and no refusal 7"
     RestWindow "I" "the literal's rest is counted from the window's front"
     RestShown "I" "bytes shown again count twice for the literal's rest"
