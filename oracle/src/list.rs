@@ -80,7 +80,7 @@ pub fn batch_windows(path: &str) -> Result<bool, String> {
     Ok(true)
 }
 
-fn write_windows(out: &mut impl Write, cut: &Cut) -> Result<(), Error> {
+pub fn write_windows(out: &mut impl Write, cut: &Cut) -> Result<(), Error> {
     let mut answers = Vec::new();
     let table = cut.show(Bend::Nothing, |_, shown, _| answers.push(shown));
     answers.truncate(cut.lengths.len());

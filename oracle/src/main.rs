@@ -30,6 +30,7 @@ mod windows;
 mod windows_compare;
 mod windows_forgets;
 mod windows_mail;
+mod windows_selftest;
 mod wrong;
 mod wrong_windows;
 
@@ -51,6 +52,7 @@ const USAGE: &str = "usage:
   oracle race LIBRARY                                              the proved library's speed beside the Rust's
   oracle generate CASES OUT                                        a batch file of made cases
   oracle generate --cuts CASES OUT                                 a file of made sessions cut into windows
+  oracle generate --cuts --limit OUT                               such a file of six sessions around the limit, 100 MB
   oracle compare CASES                                             the oracle against the second reading
   oracle compare FILE                                              the same over a batch file
   oracle windows CASES                                             cut sessions by windows against one call
@@ -59,11 +61,12 @@ const USAGE: &str = "usage:
   oracle answers FILE OUT                                          a batch file with the oracle's answers
   oracle check FILE                                                replays a file with answers
   oracle show FILE                                                 a file with answers as text
-  oracle selftest                                                  document 01's examples, the findings, and docs/DIFFERENCES.md
+  oracle selftest                                                  document 01's examples, the findings, docs/DIFFERENCES.md, and W2 by hand
 CASES: [--seed N] [--count N] [--first N, for generate, compare and windows] [--any-byte | --short]";
 
-const FLAGS: [&str; 8] =
-    ["--plain", "--no-overlays", "--any-length", "--any-byte", "--short", "--second", "--windows", "--cuts"];
+const FLAGS: [&str; 9] = [
+    "--plain", "--no-overlays", "--any-length", "--any-byte", "--short", "--second", "--windows", "--cuts", "--limit",
+];
 
 /// The words of the command line: flags, flags with a number, and the rest.
 pub struct Words {
@@ -125,6 +128,7 @@ fn run(words: &Words) -> Result<bool, String> {
         ["batch", file] => list::batch(file, words.has("--second")),
         ["bench", entry, file] => list::bench(entry, file, words.has("--plain")),
         ["race", library] => race::run(library),
+        ["generate", out] if words.has("--limit") => stored::generate_long(out),
         ["generate", out] if words.has("--cuts") => stored::generate_cuts(words.generator(), words.numbers(), out),
         ["generate", out] => stored::generate(words.generator(), words.numbers(), out),
         ["compare"] => {

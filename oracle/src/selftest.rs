@@ -1,10 +1,12 @@
-//! Document 01's "Sessions to check", and the findings of docs/DIFFERENCES.md, as cases with answers.
+//! Document 01's "Sessions to check", and the findings of docs/DIFFERENCES.md, as cases with answers; W2's
+//! sessions by windows stand beside.
 
 use crate::case::{Answer, Case, ENOUGH, Sides, readable};
 use crate::differences;
 use crate::judge::{PlainJudge, SwiftJudge};
 use crate::packet::{Packet, Plain, Swift};
 use crate::reading;
+use crate::windows_selftest;
 use crate::wrong::Wrong;
 use memchr::memmem::Finder;
 
@@ -236,9 +238,12 @@ pub fn run() -> bool {
     judges.ask(&Case::session(b's', &full), "1 0 0\n", "1 0 0\n");
     let over = vec![b'\n'; 16_777_217];
     judges.ask(&Case::session(b's', &over), "2 0 0\n", "2 0 0\n");
+    let (windows, windows_failed) = windows_selftest::run();
+    judges.run += windows;
+    judges.failed += windows_failed;
     let sound = delimiters::<Plain>() && delimiters::<Swift>() && lower_case_is_safe() && white_space_is_known();
     println!(
-        "{} checks, {} failed, {} inputs of docs/DIFFERENCES.md among them; delimiters and characters {}",
+        "{} checks, {} failed, {} inputs of docs/DIFFERENCES.md and {windows} sessions by windows among them; delimiters and characters {}",
         judges.run,
         judges.failed,
         examples.len(),

@@ -27,6 +27,13 @@ pub fn generate_cuts(generator: Generator, numbers: Range<u64>, path: &str) -> R
     write_records(numbers, path, |record, number| cut::write(record, &Cut::made(&generator, number)))
 }
 
+/// Sessions around the limit, some 100 MB.
+pub fn generate_long(path: &str) -> Result<bool, String> {
+    let mut out = Vec::new();
+    cut::around_limit().iter().for_each(|cut| cut::write(&mut out, cut));
+    save(path, &out)
+}
+
 fn write_records(numbers: Range<u64>, path: &str, write: impl Fn(&mut Vec<u8>, u64)) -> Result<bool, String> {
     let failed = |why: Error| format!("{path}: {why}");
     let mut out = BufWriter::new(File::create(path).map_err(failed)?);
