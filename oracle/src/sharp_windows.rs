@@ -1,6 +1,6 @@
 //! How sharp the cut cases are: each wrong reading of W2 against the right one and against one call.
 
-use crate::cut::Cut;
+use crate::cut::{Cut, around_limit};
 use crate::generate::Generator;
 use crate::judge::SwiftJudge;
 use crate::windows::Shown;
@@ -96,12 +96,30 @@ pub fn run(generator: Generator, count: u64) -> bool {
         }
     }
     print_table(&told);
+    print_files(&told);
     let missed = told.iter().filter(|told| told.one_call == 0).count();
     println!(
         "\n{} wrong readings, {missed} not told; the right reading differs in {right} of {count} cases.",
         BENDS.len()
     );
     missed == 0 && right == 0
+}
+
+/// Which of those that no made file tells the sessions around the limit tell.
+fn print_files(told: &[Told]) {
+    let cuts = around_limit();
+    let all =
+        |bend| -> Vec<Answers> { cuts.iter().map(|cut| printed(answers(cut, bend), cut.lengths.len())).collect() };
+    let straight = all(Bend::Nothing);
+    let untold = told.iter().zip(BENDS).filter(|(told, _)| told.in_file == 0).map(|(_, (bend, ..))| *bend);
+    let (limit, none): (Vec<Bend>, Vec<Bend>) = untold.partition(|bend| all(*bend) != straight);
+    println!("\nThe file of `generate --cuts --limit` tells, of those no other file tells: {}.", names(&limit));
+    println!("No file tells: {}.", names(&none));
+}
+
+fn names(bends: &[Bend]) -> String {
+    let names: Vec<String> = bends.iter().map(|bend| format!("{bend:?}")).collect();
+    if names.is_empty() { "none".to_string() } else { names.join(", ") }
 }
 
 fn print_table(told: &[Told]) {

@@ -212,7 +212,8 @@ impl Maker<'_> {
 
     /// Lines with no delimiter in them, then one that lets a delimiter follow, or nothing.
     fn region(&mut self, boundary: &[u8]) {
-        for _ in 0..self.rng.below(5) {
+        let lines = if self.rng.chance(1) { 200 } else { 5 };
+        for _ in 0..self.rng.below(lines) {
             self.tricky(boundary);
         }
         let last = self.rng.pick(&["", "x\r\n", "\r\n", "more text\r\n", "y\n\r\n", "y\r\n"]);
