@@ -186,6 +186,13 @@ impl Judges {
             self.expect(what, case, answer, wanted);
         }
     }
+
+    fn ask_around_limit(&mut self) {
+        let full = vec![0; 16_777_216];
+        self.ask(&Case::session(b's', &full), "1 0 0\n", "1 0 0\n");
+        let over = vec![b'\n'; 16_777_217];
+        self.ask(&Case::session(b's', &over), "2 0 0\n", "2 0 0\n");
+    }
 }
 
 /// Content's length and where reading goes on, by document 01's three examples.
@@ -234,13 +241,10 @@ pub fn run() -> bool {
             println!("(docs/DIFFERENCES.md, line {})", example.line);
         }
     }
-    let full = vec![0; 16_777_216];
-    judges.ask(&Case::session(b's', &full), "1 0 0\n", "1 0 0\n");
-    let over = vec![b'\n'; 16_777_217];
-    judges.ask(&Case::session(b's', &over), "2 0 0\n", "2 0 0\n");
-    let (windows, windows_failed) = windows_selftest::run();
+    judges.ask_around_limit();
+    let (windows, failed) = windows_selftest::run();
     judges.run += windows;
-    judges.failed += windows_failed;
+    judges.failed += failed;
     let sound = delimiters::<Plain>() && delimiters::<Swift>() && lower_case_is_safe() && white_space_is_known();
     println!(
         "{} checks, {} failed, {} inputs of docs/DIFFERENCES.md and {windows} sessions by windows among them; delimiters and characters {}",
