@@ -12,20 +12,19 @@ use Rattle.events.specs.declared.Encoding.{Encoding}
 use Rattle.events.specs.declared.Encoding.the-variants.{Unsaid}
 use Rattle.events.specs.declared.Log.{Log}
 use Rattle.events.specs.declared.Outcome.the-variants.{BadDelimiter}
-use Rattle.fields.specs.Common.{part, unknown, dashBdry}
+use Rattle.fields.specs.Common.{part, unknown}
 use Rattle.reading.specs.Bytes.{startsWith, same}
 use Rattle.reading.specs.Reading.{Need, crlf, delimiter}
-use Rattle.reads.specs.Contracts.{Ends, Pair, NoPair, Stopped, Full, Written}
+use Rattle.reads.specs.Contracts.{Ends, Pair, NoPair, Stopped, Full, Written, Begins}
 use Rattle.reads.specs.declared.Stop.{Stop}
 use Rattle.rules.specs.Machine.{Reaction}
 use Rattle.rules.specs.Mail.{dotLine, hyphens, afterMail, rest, literalBody, whole, contentLength, outermost, byRest, skip, lastLine, popped, onText, onLiteral}
 use Rattle.rules.specs.Mail.{onPreamble, onOpened, onContent, onBetween, onSkipping, onResting}
 use Rattle.rules.specs.Phases.{Phase, State, reads, wants, then, closing, head, text, literal, preamble, opened, content, between, skipping, resting}
 use Rattle.rules.specs.Sessions.{reacts}
-use Rattle.sessions.specs.Walks.{goes, Walks, piece, Lies, Begun}
+use Rattle.sessions.specs.Walks.{goes, Walks, piece, Lies}
 use Rattle.sessions.specs.declared.walks.Boundary.{Boundary}
 use Rattle.rules.specs.declared.Mail.{Mail}
-use Rattle.rules.specs.declared.Mail.the-variants.{Smtp, Pop3, Imap}
 use Rattle.sessions.specs.declared.walks.Walk.{Walk}
 use Rattle.sessions.specs.declared.walks.Walk.the-variants as walk
 use Rattle.sessions.proofs.Readings.{piece-length}
@@ -152,13 +151,6 @@ module _ (m : Mail) (b : List ℕ) (os : List (List ℕ)) (at : ℕ) where
   unfolding skip
   skip-line h = line-if m b os (rest m at) h
 
--- a dash line is the last, whose ever the mail is
-pub last-dash : (m : Mail) (o l : List ℕ) → dashBdry o l ≡ true → true ≡ lastLine m o l
-unfolding lastLine
-last-dash Smtp o l h = rw h
-last-dash Pop3 o l h = rw h
-last-dash (Imap size start) o l h = rw h
-
 -- ---- which read follows behind a close, as the code decides it
 module _ (s : List ℕ) (m : Mail) (b : List ℕ) (os : List (List ℕ)) (at : ℕ) (outer : Boundary) (n : ℕ) (e : n ≡ rest m at) (o : outermost b os ≡ piece s outer)
     (l : Lies s outer) where
@@ -171,7 +163,6 @@ module _ (s : List ℕ) (m : Mail) (b : List ℕ) (os : List (List ℕ)) (at : �
   pub skip-by-line : (0 < n → outer .len ≤ n) → goes (skip m b os at) ≡ then [] (skipping m b os)
   skip-by-line h = ap goes (skip-line m b os at (λ g. let k = h (omega arith) in omega (arith, outer-long)))
 
-pub begun-on : (m : Mail) (i j : ℕ) → Begun m i → i ≤ j → Begun m j
-begun-on Smtp i j h g = tt
-begun-on Pop3 i j h g = tt
-begun-on (Imap size start) i j h g = omega arith
+-- a header that begins at i or before begins at j or before
+pub begun-on : {m : Mail} {i j : ℕ} → Begins m i → i ≤ j → Begins m j
+begun-on h g = record { is = λ size start q. let k = h .is size start q in omega arith }

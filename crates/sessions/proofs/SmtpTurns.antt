@@ -3,72 +3,36 @@
 use mathlib.Core.Path.{_≡_, refl}
 use mathlib.Core.Bool.{true, false}
 use mathlib.Core.List.{List, [], _∷_}
-use Prim.Native.Nat.{ℕ, _+_, _-_, _≤_, _<_}
+use Prim.Native.Nat.{ℕ, _+_, _-_, _≤_}
 use native.Mathlib.Omega.{arith}
-use lib.ListN.{length, take, drop, length-take, length-drop}
+use lib.ListN.{length, take}
 use Rattle.events.specs.Events.{ev}
 use Rattle.events.specs.Events as event
 use Rattle.events.specs.declared.Encoding.the-variants.{Unsaid}
 use Rattle.events.specs.declared.Log.{Log}
 use Rattle.events.specs.declared.Outcome.the-variants.{Done, NoHello, StartTls, NoRecipient}
 use Rattle.fields.specs.Common.{part, unknown}
-use Rattle.fields.specs.Smtp.{startsWithHelo, isMailFrom, secondLine, isData, fromField, toField, closing, upToEnd, required, mailFrom, rcptTo}
+use Rattle.fields.specs.Smtp.{startsWithHelo, isMailFrom, secondLine, isData, rcptTo}
 use Rattle.fields.specs.declared.smtp.Address.{Address}
 use Rattle.fields.specs.declared.smtp.Address.the-variants.{Given, Missing}
 use Rattle.fields.specs.declared.smtp.Second.the-variants as is
-use Rattle.reading.proofs.Places.{by-test, first-inside}
-use Rattle.reading.proofs.Words.{starts-long}
-use Rattle.reading.specs.Bytes.{startsWith, holds}
+use Rattle.reading.proofs.Places.{by-test}
+use Rattle.reading.specs.Bytes.{startsWith}
 use Rattle.reading.specs.Reading.{aLine, clean}
 use Rattle.reading.specs.Text.{text}
-use Rattle.reading.specs.declared.Place.{Place}
-use Rattle.reading.specs.declared.Place.the-variants.{At, Nowhere}
-use Rattle.reads.specs.Contracts.{Ends, Cleaned, Stopped, Full, Written}
+use Rattle.reads.specs.Contracts.{Ends, Cleaned, Stopped, Notes}
+use Rattle.reads.specs.declared.Noted.{Noted}
 use Rattle.reads.specs.declared.Stop.{Stop}
 use Rattle.rules.specs.Phases.{State, reads, hello, second, user, password, sender, seeking, recipient, reply, head, then, wants}
 use Rattle.rules.specs.Sessions.{reacts}
 use Rattle.rules.specs.Smtp.{onHello, given, tried, bySecond, onSecond, onUser, onPassword, onSender, onSeeking, byRecipient, onRecipient, onReply}
-use Rattle.sessions.specs.Walks.{Walks, Lists, LinedTo, LinedStop}
+use Rattle.sessions.specs.Walks.{wentOf, Walks, Lists, LinedTo, LinedStop}
 use Rattle.rules.specs.declared.Mail.the-variants.{Smtp}
 use Rattle.sessions.specs.declared.walks.Walk.{Walk}
 use Rattle.sessions.specs.declared.walks.Walk.the-variants as walk
 use Rattle.sessions.proofs.Lines.{line-on, line-stop}
 use Rattle.sessions.proofs.MailTurns.{behind}
-use Rattle.sessions.proofs.Steps.{here, stop, read, note-stop, note}
-
--- ---- an address lies inside its line
-abbrev InLine : List ℕ → Address → Type 0
-InLine l (Given o n) = o + n ≤ length l
-InLine l Missing = Unit {0}
-
-closing-within : (w l : List ℕ) (q : ℕ) → closing w l ≡ At q → q < length l - length w
-unfolding closing
-closing-within w l q e = omega (arith, first-inside (holds 62 (drop (length w) l)) (drop (length w) l) q e, length-drop (length w) l)
-
-from-at : (w l : List ℕ) (q : Place) → length w ≤ length l → closing w l ≡ q → InLine l (Given (length w) (upToEnd (length l - length w) q))
-unfolding upToEnd
-from-at w l (At q) h e = omega (arith, closing-within w l q e)
-from-at w l Nowhere h e = omega arith
-
-from-in-line : (l : List ℕ) → InLine l (mailFrom l)
-unfolding mailFrom
-from-in-line l = by-test (startsWith fromField l) (λ t. rw t (from-at fromField l (closing fromField l) (starts-long fromField l t) refl)) (λ f. rw f tt)
-
-to-at : (w l : List ℕ) (q : Place) → length w ≤ length l → closing w l ≡ q → InLine l (required (length w) q)
-unfolding required
-to-at w l (At q) h e = omega (arith, closing-within w l q e)
-to-at w l Nowhere h e = tt
-
-to-in-line : (l : List ℕ) → InLine l (rcptTo l)
-unfolding rcptTo
-to-in-line l = by-test (startsWith toField l) (λ t. rw t (to-at toField l (closing toField l) (starts-long toField l t) refl)) (λ f. rw f tt)
-
-module _ (s : List ℕ) (at end : ℕ) {o n : ℕ} where
-  pub from-room : mailFrom (part s at end) ≡ Given o n → o + n ≤ end - at
-  from-room e = omega (arith, rw e at (from-in-line (part s at end)), length-take (end - at) (drop at s))
-
-  pub to-room : rcptTo (part s at end) ≡ Given o n → o + n ≤ end - at
-  to-room e = omega (arith, rw e at (to-in-line (part s at end)), length-take (end - at) (drop at s))
+use Rattle.sessions.proofs.Steps.{here, stop, read, adds}
 
 -- ---- the first line
 module _ {s t : List ℕ} {log : Log} {to : ℕ → State} where
@@ -127,30 +91,20 @@ module _ {s t : List ℕ} {log : Log} (at : ℕ) {e : ℕ} {x : Address} where
   unfolding given
   tried-none h g = rw h (here e g)
 
-  pub tried-full : {to : ℕ → State} {a : Stop} {o n : ℕ} {u : List ℕ} → x ≡ Given o n → Full t log (ev event.sender (at + o) n Unsaid ∷ []) a u
-      → Walks s t log e (then (given at x) recipient) to (walk.Stopped a) u
+  pub tried-some : {o n : ℕ} {r : Walk} {u : List ℕ} (k : Noted) → x ≡ Given o n → r ≡ wentOf k e → Notes t log (ev event.sender (at + o) n Unsaid ∷ []) k u → e ≤ length s
+      → Walks s t log e (then (given at x) recipient) (λ p. reads recipient) r u
   unfolding given
-  tried-full h w = rw h (note-stop [] (reads recipient) w)
-
-  pub tried-some : {next : Log} {o n : ℕ} {u : List ℕ} → x ≡ Given o n → Written t log (ev event.sender (at + o) n Unsaid ∷ []) next u → e ≤ length s
-      → Walks s t log e (then (given at x) recipient) (λ p. reads recipient) (walk.Went e next) u
-  unfolding given
-  tried-some h w g = rw h (note [] (reads recipient) w (here e g))
+  tried-some k h q w g = rw h (adds k q w s (λ p. reads recipient) g)
 
   -- a recipient: without one, the session is refused
   pub recipient-none : {to : ℕ → State} {a : Stop} → x ≡ Missing → Stopped NoRecipient at log a → Walks s t log e (byRecipient at x) to (walk.Stopped a) t
   unfolding byRecipient
   recipient-none h w = rw h (stop w)
 
-  pub recipient-full : {to : ℕ → State} {a : Stop} {o n : ℕ} {u : List ℕ} → x ≡ Given o n → Full t log (ev event.recipient (at + o) n Unsaid ∷ []) a u
-      → Walks s t log e (byRecipient at x) to (walk.Stopped a) u
+  pub recipient-some : {o n : ℕ} {r : Walk} {u : List ℕ} (k : Noted) → x ≡ Given o n → r ≡ wentOf k e → Notes t log (ev event.recipient (at + o) n Unsaid ∷ []) k u
+      → e ≤ length s → Walks s t log e (byRecipient at x) (λ p. reads recipient) r u
   unfolding byRecipient
-  recipient-full h w = rw h (note-stop [] (reads recipient) w)
-
-  pub recipient-some : {next : Log} {o n : ℕ} {u : List ℕ} → x ≡ Given o n → Written t log (ev event.recipient (at + o) n Unsaid ∷ []) next u → e ≤ length s
-      → Walks s t log e (byRecipient at x) (λ p. reads recipient) (walk.Went e next) u
-  unfolding byRecipient
-  recipient-some h w g = rw h (note [] (reads recipient) w (here e g))
+  recipient-some k h q w g = rw h (adds k q w s (λ p. reads recipient) g)
 
 -- ---- lines listed
 user-lists : (at : ℕ) → Lists event.user at user

@@ -26,7 +26,6 @@ use Rattle.sessions.specs.declared.header.Headed.the-variants as headed
 use Rattle.sessions.specs.declared.walks.Lined.{Lined}
 use Rattle.sessions.specs.declared.walks.Lined.the-variants as lined
 use Rattle.rules.specs.declared.Mail.{Mail}
-use Rattle.rules.specs.declared.Mail.the-variants.{Smtp, Pop3, Imap}
 use Rattle.sessions.specs.declared.multi.Parted.{Parted}
 use Rattle.sessions.specs.declared.multi.Parted.the-variants as parted
 use Rattle.sessions.specs.declared.walks.Walk.{Walk}
@@ -112,12 +111,6 @@ piece s b = take (b .len) (drop (b .at) s)
 
 abbrev pub Lies : List ℕ → Boundary → Type 0
 Lies s b = b .at + b .len ≤ length s
-
--- a mail's header begins where the walk is or before
-abbrev pub Begun : Mail → ℕ → Type 0
-Begun Smtp at = Unit {0}
-Begun Pop3 at = Unit {0}
-Begun (Imap size start) at = start ≤ at
 
 -- b is open inside the boundaries os, so many levels are left below it, and outer is the outermost
 pub record Within (s : List ℕ) (b outer : Boundary) (levels : ℕ) (os : List (List ℕ)) : Type 0 where

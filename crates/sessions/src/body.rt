@@ -2,11 +2,12 @@
 ghost use mathlib.Core.List.{[]};
 ghost use Prim.Native.Nat.{_≤_};
 ghost use lib.ListN.{length};
+ghost use Rattle.reads.specs.Contracts.{Begins};
 ghost use Rattle.rules.specs.Mail.{afterMail, starts, plainMail, literalBody};
 ghost use Rattle.rules.specs.Phases.{reads, text, closing, then};
 ghost use Rattle.rules.specs.Sessions.{limit};
 ghost use Rattle.rules.specs.declared.Mail.{Mail};
-ghost use Rattle.sessions.specs.Walks.{Walks, Begun};
+ghost use Rattle.sessions.specs.Walks.{Walks};
 use crate::walks::Walk;
 use crate::walks::went;
 use events::BODY_LINE;
@@ -34,7 +35,7 @@ pub fn plain_mail(
     table: &mut [u32],
     log: Log,
 ) -> Walk
-    requires { ⌜ (length (now s) ≤ limit) × (at ≤ length (now s)) × Begun mail at ⌝ }
+    requires { ⌜ (length (now s) ≤ limit) × (at ≤ length (now s)) × Begins mail at ⌝ }
     ensures { λ r. ⌜ Walks (now (s .entry)) (now (table .entry)) log at (plainMail mail encoding at) (afterMail mail) r (now (table .exit)) ⌝ }
 {
     match mail {

@@ -3,10 +3,11 @@ ghost use Prim.Native.Nat.{_+_, _≤_};
 ghost use mathlib.Core.List.{[]};
 ghost use lib.ListN.{length};
 ghost use Rattle.fields.specs.Common.{unknown};
+ghost use Rattle.reads.specs.Contracts.{Begins};
 ghost use Rattle.rules.specs.Mail.{afterMail};
 ghost use Rattle.rules.specs.Phases.{head, then};
 ghost use Rattle.rules.specs.Sessions.{limit};
-ghost use Rattle.sessions.specs.Walks.{Walks, Headers, Begun};
+ghost use Rattle.sessions.specs.Walks.{Walks, Headers};
 use crate::body::plain_mail;
 use crate::multi::multi_body;
 use crate::walks::Boundary;
@@ -34,7 +35,7 @@ pub enum Headed {
 }
 
 pub fn read_mail(s: &[u8], at: usize, mail: Mail, table: &mut [u32], log: Log) -> Walk
-    requires { ⌜ (length (now s) ≤ limit) × (at ≤ length (now s)) × Begun mail at ⌝ }
+    requires { ⌜ (length (now s) ≤ limit) × (at ≤ length (now s)) × Begins mail at ⌝ }
     ensures { λ r. ⌜ Walks (now (s .entry)) (now (table .entry)) log at (then [] (head mail unknown [])) (afterMail mail) r (now (table .exit)) ⌝ }
 {
     match header(&s[at..], at, table, log) {

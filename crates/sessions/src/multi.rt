@@ -1,15 +1,14 @@
 // Multiparts: parts inside parts, eight levels deep. Ports `multi_body`, `preamble`, `mime_body` and `epilogue` of common.rs and imap.rs.
 // b is the boundary of the present level, outer the outermost; `levels` are left below the present one.
-ghost use mathlib.Core.Path.{_≡_};
 ghost use mathlib.Core.List.{List, []};
 ghost use Prim.Native.Nat.{ℕ, _-_, _≤_, _<_};
 ghost use lib.ListN.{length};
-ghost use Rattle.fields.specs.Common.{part};
-ghost use Rattle.rules.specs.Mail.{rest, lastLine, popped};
+ghost use Rattle.reads.specs.Contracts.{Begins};
+ghost use Rattle.rules.specs.Mail.{popped};
 ghost use Rattle.rules.specs.Phases.{resting, then};
 ghost use Rattle.rules.specs.Sessions.{limit};
 ghost use Rattle.rules.specs.declared.Mail.{Mail};
-ghost use Rattle.sessions.specs.Walks.{Walks, piece, Lies, Begun, MultiBodyIs, PartIs, PreambleIs, ContentIs, MimeBodyIs, EpilogueIs};
+ghost use Rattle.sessions.specs.Walks.{Walks, Lies, MultiBodyIs, PartIs, PreambleIs, ContentIs, MimeBodyIs, EpilogueIs};
 use crate::header::Headed;
 use crate::header::header;
 use crate::walks::Boundary;
@@ -27,7 +26,10 @@ use reads::Read;
 use reads::Stop;
 use reads::Two;
 use reads::hold;
+use reads::last_line;
+use reads::less;
 use reads::line;
+use reads::literal_rest;
 use reads::note;
 use reads::sized;
 use reads::stopped;
@@ -51,7 +53,7 @@ pub fn multi_body(
     table: &mut [u32],
     log: Log,
 ) -> Walk
-    requires { ⌜ (length (now s) ≤ limit) × (at ≤ length (now s)) × Begun mail at × Lies (now s) b × Lies (now s) outer ⌝ }
+    requires { ⌜ (length (now s) ≤ limit) × (at ≤ length (now s)) × Begins mail at × Lies (now s) b × Lies (now s) outer ⌝ }
     ensures { λ r. ⌜ MultiBodyIs (now (s .entry)) (now (table .entry)) log at b outer levels mail r (now (table .exit)) ⌝ }
 {
     match preamble(s, at, b, log) {
@@ -87,7 +89,7 @@ fn part(
     table: &mut [u32],
     log: Log,
 ) -> Parted
-    requires { ⌜ (length (now s) ≤ limit) × (at ≤ length (now s)) × Begun mail at × Lies (now s) b × Lies (now s) outer ⌝ }
+    requires { ⌜ (length (now s) ≤ limit) × (at ≤ length (now s)) × Begins mail at × Lies (now s) b × Lies (now s) outer ⌝ }
     ensures { λ r. ⌜ PartIs (now (s .entry)) (now (table .entry)) log at b outer levels mail r (now (table .exit)) ⌝ }
 {
     match header(&s[at..], at, table, log) {
@@ -174,21 +176,13 @@ fn mime_body(
     }
 }
 
-// n less m, and 0 where m is more.
-fn less(n: usize, m: usize) -> usize
-    ensures { λ r. ⌜ r ≡ n - m ⌝ }
-{
-    if n < m {
-        return 0;
-    }
-    n - m
-}
-
 // Lines behind a close, up to one that ends the skipping.
 fn epilogue(s: &[u8], at: usize, outer: Boundary, mail: Mail, log: Log) -> Walk
-    requires { ⌜ (length (now s) ≤ limit) × (at ≤ length (now s)) × Begun mail at × Lies (now s) outer ⌝ }
+    requires { ⌜ (length (now s) ≤ limit) × (at ≤ length (now s)) × Begins mail at × Lies (now s) outer ⌝ }
     ensures { λ r. ⌜ EpilogueIs (now (s .entry)) log at outer mail r ⌝ }
 {
+    let from = outer.at;
+    let to = outer.at + outer.len;
     let mut p = at;
     loop {
         let rest = literal_rest(mail, p);
@@ -202,7 +196,7 @@ fn epilogue(s: &[u8], at: usize, outer: Boundary, mail: Mail, log: Log) -> Walk
                 return Walk::Stopped(stopped(o, p, log));
             }
             Read::To(e) => {
-                if last_line(s, p, e, outer, mail) {
+                if last_line(&s[p..e], &s[from..to], mail) {
                     return Walk::Went(e, log);
                 }
                 p = e;
@@ -219,39 +213,5 @@ fn skip_rest(s: &[u8], at: usize, n: u64, log: Log) -> Walk
     match sized(s, at, n) {
         Read::Stop(o) => Walk::Stopped(stopped(o, at, log)),
         Read::To(e) => Walk::Went(e, log),
-    }
-}
-
-// What is left of the literal at a place: 0 once passed, and where there is none.
-fn literal_rest(mail: Mail, at: usize) -> u64
-    requires { ⌜ Begun mail at ⌝ }
-    ensures { λ r. ⌜ r ≡ rest mail at ⌝ }
-{
-    match mail {
-        Mail::Smtp => 0,
-        Mail::Pop3 => 0,
-        Mail::Imap(size, start) => {
-            let read = (at - start) as u64;
-            if size < read {
-                return 0;
-            }
-            size - read
-        }
-    }
-}
-
-fn last_line(s: &[u8], at: usize, end: usize, outer: Boundary, mail: Mail) -> bool
-    requires { ⌜ (at ≤ end) × (end ≤ length (now s)) × Lies (now s) outer ⌝ }
-    ensures { λ r. ⌜ r ≡ lastLine mail (piece (now (s .entry)) outer) (part (now (s .entry)) at end) ⌝ }
-{
-    let from = outer.at;
-    let to = outer.at + outer.len;
-    if fields::common::dash_bdry(&s[at..end], &s[from..to]) {
-        return true;
-    }
-    match mail {
-        Mail::Smtp => reading::equals(&s[at..end], b".\r\n"),
-        Mail::Pop3 => reading::equals(&s[at..end], b".\r\n"),
-        Mail::Imap(_, _) => false,
     }
 }

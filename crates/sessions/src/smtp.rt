@@ -17,6 +17,7 @@ use crate::walks::Lined;
 use crate::walks::Walk;
 use crate::walks::answer;
 use crate::walks::note_line;
+use crate::walks::went;
 use events::Answer;
 use events::Encoding;
 use events::Log;
@@ -35,7 +36,6 @@ use fields::smtp::rcpt_to;
 use fields::smtp::second_line;
 use fields::smtp::starts_with_helo;
 use reads::Clean;
-use reads::Noted;
 use reads::Read;
 use reads::clean_line;
 use reads::line;
@@ -102,10 +102,7 @@ fn tried(s: &[u8], at: usize, end: usize, to: usize, table: &mut [u32], log: Log
 {
     match mail_from(&s[at..end]) {
         Address::Missing => Walk::Went(to, log),
-        Address::Given(o, n) => match note(table, log, SENDER, at + o, n, Encoding::Unsaid) {
-            Noted::Stopped(a) => Walk::Stopped(a),
-            Noted::Written(next) => Walk::Went(to, next),
-        },
+        Address::Given(o, n) => went(note(table, log, SENDER, at + o, n, Encoding::Unsaid), to),
     }
 }
 
@@ -191,10 +188,7 @@ fn recipient(s: &[u8], at: usize, end: usize, to: usize, table: &mut [u32], log:
 {
     match rcpt_to(&s[at..end]) {
         Address::Missing => Walk::Stopped(stopped(Outcome::NoRecipient, at, log)),
-        Address::Given(o, n) => match note(table, log, RECIPIENT, at + o, n, Encoding::Unsaid) {
-            Noted::Stopped(a) => Walk::Stopped(a),
-            Noted::Written(next) => Walk::Went(to, next),
-        },
+        Address::Given(o, n) => went(note(table, log, RECIPIENT, at + o, n, Encoding::Unsaid), to),
     }
 }
 

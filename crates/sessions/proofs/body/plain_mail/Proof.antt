@@ -24,7 +24,7 @@ returns-3 c =
 sub-head : tie.Need-sub-head
 sub-head c =
     let start = c .before .before .before .before .before in
-    rw (c .before .mail .given .1) at (start .pre .2)
+    start .pre .2 .is _ _ (c .before .mail .given .1)
 
 -- the literal is smaller than the header: refusal 7
 returns : tie.Need-returns

@@ -59,14 +59,14 @@ plain-mail-requires : tie.Need-plain-mail-requires
 plain-mail-requires c κs =
     let k = c .before .before .before .before in
     let here = start k in
-    (here .pre .0, within k, begun-on (here .args .mail) (here .args .at) _ (here .pre .2) (omega arith))
+    (here .pre .0, within k, begun-on (here .pre .2) (omega arith))
 
 -- what `multi_body` requires: its boundary is the outermost one too
 multi-body-requires : tie.Need-multi-body-requires
 multi-body-requires c κs =
     let b = c .before .before in
     let here = start (told b) in
-    (here .pre .0, within (told b), begun-on (here .args .mail) (here .args .at) _ (here .pre .2) (omega arith), lies b, lies b)
+    (here .pre .0, within (told b), begun-on (here .pre .2) (omega arith), lies b, lies b)
 
 -- ---- the sums `at + n` and `at + o` do not wrap
 

@@ -1,6 +1,6 @@
 -- `sessions::imap::append_mail` meets its contract, by what stands behind the literal. Assumes nothing.
+use mathlib.Core.Path.{_≡_}
 use mathlib.Core.List.{[]}
-use native.Mathlib.Nat.{le-refl}
 use native.Mathlib.Omega.{arith}
 use borrow.Author.Needs.{needs}
 use Rattle.fields.specs.Common.{unknown}
@@ -32,8 +32,8 @@ went c = rw (c .to .given .1) at (c .before .before .before .before .read-mail .
 -- ---- the mail
 read-mail-requires : tie.Need-read-mail-requires
 read-mail-requires c κs =
-    let pre = c .before .before .before .pre in
-    (pre .0, pre .1, le-refl _)
+    let here = c .before .before .before in
+    (here .pre .0, here .pre .1, record { is = λ size start q. let same : here .args .at ≡ start = cc in omega arith })
 
 -- it stopped
 returns : tie.Need-returns

@@ -126,7 +126,7 @@ module _ (t : ℕ) where
   multi-body-part-requires c κs =
       let start = loop-entry (c .before) in
       let pre = start .pre .1 in
-      (omega arith, (pre .0, c .before .loop .inv .within, begun-on (start .args .mail) (start .args .at) _ (pre .2) (on (c .before)), pre .3, pre .4))
+      (omega arith, (pre .0, c .before .loop .inv .within, begun-on (pre .2) (on (c .before)), pre .3, pre .4))
 
   -- a part that says `Next` goes on
   multi-body-loop-less : multi-body-lts.Need-loop-less multi-body-callees (multi-body-at t) multi-body.Post multi-body-Inv-loop multi-body-μ-loop
@@ -148,7 +148,7 @@ module _ (t : ℕ) where
       let start = loop-entry loop in
       let pre = start .pre .1 in
       let closed = rw (c .before .to2 .given .1) at (called .part .ensures) in
-      (pre .0, closed .moved .1, begun-on (start .args .mail) (start .args .at) _ (pre .2) (omega (arith, on loop, closed .moved .0)), omega (arith, pre .3, pre .4))
+      (pre .0, closed .moved .1, begun-on (pre .2) (omega (arith, on loop, closed .moved .0)), omega (arith, pre .3, pre .4))
 
   multi-body-same-length : multi-body-lts.Need-same-length multi-body-callees (multi-body-at t) multi-body.Post multi-body-Inv-loop multi-body-μ-loop
   multi-body-same-length c = kept (c .before .before .before .before .before .before)
@@ -263,7 +263,7 @@ module _ (t : ℕ) where
       let b = c .before .before .before in
       let start = entry (known b) in
       let pre = start .pre .1 in
-      (omega arith, (pre .0, within (known b), begun-on (start .args .mail) (start .args .at) _ (pre .2) (omega arith), lies b, pre .4))
+      (omega arith, (pre .0, within (known b), begun-on (pre .2) (omega arith), lies b, pre .4))
 
   -- a way out: the ninth level
   part-returns : part-lts.Need-returns part-callees (part-at t) part.Post

@@ -3,6 +3,7 @@ use mathlib.Core.Path.{sym, _∙_}
 use native.Mathlib.Omega.{arith}
 use borrow.Author.Needs.{needs}
 use Rattle.events.specs.Events.{serverLine}
+use Rattle.reads.proofs.Laws.{begun-pop3}
 use Rattle.rules.specs.Mail.{afterMail}
 use Rattle.sessions.specs.Walks.{LinedTo}
 use Rattle.sessions.proofs.StatusTurns.{status-stop, status-tls, status-mail, status-on}
@@ -43,7 +44,7 @@ part-retr-answer-end c =
 read-mail-requires : tie.Need-read-mail-requires
 read-mail-requires c κs =
     let line = c .before .before .before .before .before .before .before .before in
-    (line .before .before .before .before .before .before .before .before .pre .0, line-to line .line .ends .within, tt)
+    (line .before .before .before .before .before .before .before .before .pre .0, line-to line .line .ends .within, begun-pop3)
 
 returns-2 : tie.Need-returns-2
 unfolding afterMail

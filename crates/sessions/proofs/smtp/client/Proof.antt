@@ -3,6 +3,7 @@ use mathlib.Core.Path.{_∙_}
 use mathlib.Core.List.{[]}
 use borrow.Author.Needs.{needs}
 use Rattle.fields.specs.Common.{unknown}
+use Rattle.reads.proofs.Laws.{begun-smtp}
 use Rattle.rules.specs.Mail.{afterMail}
 use Rattle.rules.specs.Phases.{reads, hello, second, recipient, head, then}
 use Rattle.rules.specs.declared.Mail.the-variants.{Smtp}
@@ -63,7 +64,7 @@ multi-rcpt-to-requires c κs =
 read-mail-requires : tie.Need-read-mail-requires
 read-mail-requires c κs =
     let told = c .before .before in
-    (start (second-of (first-of told)) .pre, addressed told .moved .1, tt)
+    (start (second-of (first-of told)) .pre, addressed told .moved .1, begun-smtp)
 
 -- ---- the ways out
 

@@ -6,7 +6,8 @@ use borrow.Author.Needs.{needs}
 use Rattle.fields.specs.Common.{part}
 use Rattle.fields.specs.Smtp.{rcptTo}
 use Rattle.fields.specs.declared.smtp.Address.the-variants.{Given}
-use Rattle.sessions.proofs.SmtpTurns.{to-room, recipient-none, recipient-full, recipient-some}
+use Rattle.reads.proofs.Addresses.{to-room}
+use Rattle.sessions.proofs.SmtpTurns.{recipient-none, recipient-some}
 use Rattle.sessions.proofs.smtp.recipient.Statement.{statement}
 use Rattle.sessions.proofs.smtp.recipient.Tie as tie
 
@@ -44,18 +45,12 @@ note-requires c κs =
     let fits = room (c .before .before) in
     (omega arith, omega arith)
 
--- its event finds no slot
+-- its event goes to the table
 returns-2 : tie.Need-returns-2
 returns-2 c =
-    let called = c .before .before .before .before .before in
-    recipient-full _ (recipient-at (called .before .before .before)) (rw (c .before .a .given .1) at (called .note .ensures))
-
--- its event is listed
-returns-3 : tie.Need-returns-3
-returns-3 c =
-    let called = c .before .before .before .before .before in
+    let called = c .before .before .before in
     let told = called .before .before .before in
-    recipient-some _ (recipient-at told) (rw (c .before .next .given .1) at (called .note .ensures)) (start told .pre .3)
+    recipient-some _ (called .note .result) (recipient-at told) (c .went .ensures) (called .note .ensures) (start told .pre .3)
 
 pub recipient-spec : {M : Type 1} → statement M
 recipient-spec =
@@ -70,10 +65,7 @@ recipient-spec =
     (λ c. search needs)
     add-note
     note-requires
-    (λ c. search needs)
-    (λ c. search needs)
+    (λ c κs. search needs)
     returns
     (λ c. search needs)
-    returns-2
-    (λ c. search needs)
-    returns-3)
+    returns-2)

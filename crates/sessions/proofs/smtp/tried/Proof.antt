@@ -6,7 +6,8 @@ use borrow.Author.Needs.{needs}
 use Rattle.fields.specs.Common.{part}
 use Rattle.fields.specs.Smtp.{mailFrom}
 use Rattle.fields.specs.declared.smtp.Address.the-variants.{Given}
-use Rattle.sessions.proofs.SmtpTurns.{from-room, tried-none, tried-full, tried-some}
+use Rattle.reads.proofs.Addresses.{from-room}
+use Rattle.sessions.proofs.SmtpTurns.{tried-none, tried-some}
 use Rattle.sessions.proofs.smtp.tried.Statement.{statement}
 use Rattle.sessions.proofs.smtp.tried.Tie as tie
 
@@ -45,18 +46,12 @@ note-requires c κs =
     let fits = room (c .before .before) in
     (omega arith, omega arith)
 
--- its event finds no slot
+-- its event goes to the table
 returns-2 : tie.Need-returns-2
 returns-2 c =
-    let called = c .before .before .before .before .before in
-    tried-full _ (sender-at (called .before .before .before)) (rw (c .before .a .given .1) at (called .note .ensures))
-
--- its event is listed
-returns-3 : tie.Need-returns-3
-returns-3 c =
-    let called = c .before .before .before .before .before in
+    let called = c .before .before .before in
     let told = called .before .before .before in
-    tried-some _ (sender-at told) (rw (c .before .next .given .1) at (called .note .ensures)) (start told .pre .3)
+    tried-some _ (called .note .result) (sender-at told) (c .went .ensures) (called .note .ensures) (start told .pre .3)
 
 pub tried-spec : {M : Type 1} → statement M
 tried-spec =
@@ -70,10 +65,7 @@ tried-spec =
     (λ c. search needs)
     add-note
     note-requires
-    (λ c. search needs)
-    (λ c. search needs)
+    (λ c κs. search needs)
     returns
     (λ c. search needs)
-    returns-2
-    (λ c. search needs)
-    returns-3)
+    returns-2)
