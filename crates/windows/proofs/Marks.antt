@@ -133,7 +133,7 @@ unfolding parted past
 past-none s (At p) h = absurd (let z : _≡_ {A = ℕ} 0 1 = cc in omega arith)
 past-none s Nowhere h = refl
 
-no-line : (s : List ℕ) → fetch aLine s ≡ short → (k : ℕ) → k < length s → eqb (getD s k 0) 10 ≡ false
+pub no-line : (s : List ℕ) → fetch aLine s ≡ short → (k : ℕ) → k < length s → eqb (getD s k 0) 10 ≡ false
 unfolding fetch reach firstPlace holds
 no-line s h k g = first-nowhere 0 (length s) (holds 10 s) (past-none s (first (holds 10 s) 0 (length s)) h) k (omega arith) (omega arith)
 
@@ -148,6 +148,21 @@ parted-onto s l r e (At q) =
     let b : drop (length l + q) (l ++ r) ≡ drop q r = sym (drop-drop q (length l) (l ++ r)) ∙ ap (drop q) (drop-at l r (length l) refl) in
     rw (m, e, take-more l r q, b)
 parted-onto s l r e Nowhere = refl
+
+-- CRLF ends the same bytes, a line being before them
+pub ends-same : (s l r : List ℕ) → Lined s l r → (k : ℕ) → 0 < k → k ≤ length r → endsWith crlf (take (length l + k) s) ≡ endsWith crlf (take k r)
+ends-same s l r d k o q =
+    by-test (eqb k 1)
+    (λ z.
+    let i : length l + k - 2 ≡ length l - 1 = omega (arith, eqb-true k 1 z, d .long) in
+    ends-crlf s (length l + k) (omega (arith, d .long)) (omega (arith, d .room)) ∙ rw (i, d .end)
+    (ends-short crlf (take k r) (omega (arith, eqb-true k 1 z, length-take k r))))
+    (λ z.
+    let two : 2 ≤ k = omega (arith, eqb-false k 1 z) in
+    let i : length l + k - 2 ≡ length l + (k - 2) = omega arith in
+    let j : length l + k - 1 ≡ length l + (k - 1) = omega arith in
+    ends-crlf s (length l + k) (omega arith) (omega (arith, d .room))
+    ∙ rw (i, j, ← (getD-drop (length l) s (k - 2) 0), ← (getD-drop (length l) s (k - 1) 0), d .back) (sym (ends-crlf r k two (omega arith))))
 
 -- ---- a read up to a mark, and a line of it
 module _ (mark : Mark) (here : Bool) (s : List ℕ) where
@@ -184,20 +199,6 @@ module _ (mark : Mark) (here : Bool) (s : List ℕ) where
       rw g
 
   module _ (l r : List ℕ) (d : Lined s l r) where
-    ends-same : (k : ℕ) → 0 < k → k < length r → endsWith crlf (take (length l + k) s) ≡ endsWith crlf (take k r)
-    ends-same k o q =
-        by-test (eqb k 1)
-        (λ z.
-        let i : length l + k - 2 ≡ length l - 1 = omega (arith, eqb-true k 1 z, d .long) in
-        ends-crlf s (length l + k) (omega (arith, d .long)) (omega (arith, d .room)) ∙ rw (i, d .end)
-        (ends-short crlf (take k r) (omega (arith, eqb-true k 1 z, length-take k r))))
-        (λ z.
-        let two : 2 ≤ k = omega (arith, eqb-false k 1 z) in
-        let i : length l + k - 2 ≡ length l + (k - 2) = omega arith in
-        let j : length l + k - 1 ≡ length l + (k - 1) = omega arith in
-        ends-crlf s (length l + k) (omega arith) (omega (arith, d .room))
-        ∙ rw (i, j, ← (getD-drop (length l) s (k - 2) 0), ← (getD-drop (length l) s (k - 1) 0), d .back) (sym (ends-crlf r k two (omega arith))))
-
     behind : (k : ℕ) → 0 ≤ k → k < 0 + length r → standsAt mark here s (length l + k) ≡ standsAt mark (endsWith crlf l) r k
     unfolding standsAt
     behind k p q =
@@ -205,7 +206,7 @@ module _ (mark : Mark) (here : Bool) (s : List ℕ) where
         let w : drop (length l + k) s ≡ drop k r = sym (drop-drop k (length l) s) ∙ ap (drop k) (d .back) in
         by-test (eqb k 0)
         (λ z. let y : length l + k ≡ length l = omega (arith, eqb-true k 0 z) in rw (z, n, w, y, d .front))
-        (λ z. rw (z, n, w, ends-same k (let o : 0 < k = omega (arith, eqb-false k 0 z) in o) (omega arith)))
+        (λ z. rw (z, n, w, ends-same s l r d k (let o : 0 < k = omega (arith, eqb-false k 0 z) in o) (omega arith)))
 
     -- a line that no mark opens: what is read, is read behind it
     upto-line : standing mark here s ≡ Nowhere → upTo mark here s ≡ onto l (upTo mark (endsWith crlf l) r)

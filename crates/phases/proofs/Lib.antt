@@ -1,0 +1,5 @@
+pub mod Turning
+pub mod Reactions
+pub mod Heading
+pub mod Parting
+pub mod Dispatch

@@ -1,0 +1,230 @@
+-- What each phase does with its piece, as the code meets it: the envelope, lines of the other sides, and bodies with no boundary.
+-- Assumes nothing.
+use mathlib.Core.Path.{_≡_, refl, sym, ap, _∙_}
+use mathlib.Core.Bool.{Bool, true, false, cond}
+use mathlib.Core.List.{List, [], _∷_}
+use Prim.Native.Nat.{ℕ, _+_, _-_, _≤_}
+use native.Mathlib.Omega.{arith}
+use lib.Dec.{ltb}
+use lib.ListN.{length, drop, length-drop}
+use borrow.Author.Tests.{lt-ltb}
+use Rattle.events.specs.Events.{ev, bodyLine, bodyStop, serverLine, clientLine}
+use Rattle.events.specs.Events as event
+use Rattle.events.specs.declared.Encoding.{Encoding}
+use Rattle.events.specs.declared.Encoding.the-variants.{Unsaid}
+use Rattle.events.specs.Table.{pour}
+use Rattle.events.specs.declared.Log.{Log}
+use Rattle.events.specs.declared.Outcome.the-variants.{Done, NoHello, NoRecipient, OpenLiteral}
+use Rattle.fields.specs.Common.{part, unknown}
+use Rattle.fields.specs.Imap.{isAppend, appendSize, holdsColon}
+use Rattle.fields.specs.Pop3.{stlsAnswer, retrAnswer}
+use Rattle.fields.specs.Smtp.{startsWithHelo, isMailFrom, secondLine, isData, mailFrom, rcptTo}
+use Rattle.fields.specs.declared.smtp.Address.{Address}
+use Rattle.fields.specs.declared.smtp.Address.the-variants.{Given, Missing}
+use Rattle.fields.specs.declared.smtp.Second.{Second}
+use Rattle.reading.specs.Bytes.{startsWith, same}
+use Rattle.reading.specs.Reading.{aLine, bytes, crlf, clean, reach}
+use Rattle.reading.specs.Text.{text}
+use Rattle.reads.proofs.Laws.{clean-length, ends-at}
+use Rattle.reads.specs.Contracts.{Ends, Cleaned, Pair, NoPair, Full}
+use Rattle.reads.specs.declared.Stop.{Stop}
+use Rattle.rules.specs.Imap.{onCommand, onOffered, onClosing}
+use Rattle.rules.specs.Machine.{Reaction}
+use Rattle.rules.specs.Mail.{dotLine, hyphens, afterMail, onText, onLiteral}
+use Rattle.rules.specs.Phases as phase
+use Rattle.rules.specs.Phases.{reads, wants, then, stop}
+use Rattle.rules.specs.Pop3.{onStatus}
+use Rattle.rules.specs.Sessions.{reacts}
+use Rattle.rules.specs.Smtp.{onHello, given, bySecond, onSecond, tried, onUser, onPassword, onSender, onSeeking, byRecipient, onRecipient, onReply}
+use Rattle.rules.specs.declared.Mail.{Mail}
+use Rattle.rules.specs.declared.Mail.the-variants.{Smtp, Pop3, Imap}
+use Rattle.windows.proofs.Blindly.{literal-cut}
+use Rattle.windows.proofs.Courses.{taking, under-literal}
+use Rattle.windows.proofs.Piecemeal.{Comes, comes}
+use Rattle.windows.proofs.Sized.{by-bytes}
+use Rattle.windows.specs.Stands.{Stand, fresh, inLiteral}
+use Rattle.windows.specs.Windows.{over, keeps, landed, lands}
+use Rattle.phases.specs.Phasing.{stateOf, Fits, Piece, Leaves, Goes}
+use Rattle.phases.specs.declared.Phase.the-variants as over-at
+use Rattle.phases.proofs.Turning.{to-end, piece-of, leads-full}
+
+-- ---- the first line
+pub hello-yes : (at : ℕ) (l : List ℕ) → startsWithHelo l ≡ true → reacts phase.hello at l ≡ then [] phase.second
+unfolding reacts onHello
+hello-yes at l h = rw h
+
+pub hello-not : (at : ℕ) (l : List ℕ) → startsWithHelo l ≡ false → reacts phase.hello at l ≡ stop [] NoHello 0
+unfolding reacts onHello
+hello-not at l h = rw h
+
+-- ---- a line that is tried as sender
+module _ {w : List ℕ} {base p : ℕ} {f : Stand} {e : ℕ} (l : List ℕ) (d : Piece w base p f e (tried (base + p) l)) where
+  pub tried-none : mailFrom l ≡ Missing → Piece w base p f e (then [] phase.recipient)
+  unfolding given
+  tried-none h = rw h at d
+
+  pub tried-given : {o n : ℕ} → mailFrom l ≡ Given o n → Piece w base p f e (then (ev event.sender (base + p + o) n Unsaid ∷ []) phase.recipient)
+  unfolding given
+  tried-given h = rw h at d
+
+-- ---- lines of which the clean part counts
+module _ (base : ℕ) {w : List ℕ} {p end e : ℕ} (d : Cleaned w p end e) where
+  pub second-by : {x : Second} → x ≡ secondLine (part w p end) → reacts phase.second (base + p) (part w p e) ≡ bySecond x (base + p) (part w p end)
+  unfolding reacts onSecond
+  second-by h = rw (← (d .is), h)
+
+  pub user-by : reacts phase.user (base + p) (part w p e) ≡ then (ev event.user (base + p) (end - p) Unsaid ∷ []) phase.password
+  unfolding reacts onUser
+  user-by = rw (clean-length d)
+
+  pub password-by : reacts phase.password (base + p) (part w p e) ≡ then (ev event.password (base + p) (end - p) Unsaid ∷ []) phase.sender
+  unfolding reacts onPassword
+  password-by = rw (clean-length d)
+
+  pub sender-by : reacts phase.sender (base + p) (part w p e) ≡ tried (base + p) (part w p end)
+  unfolding reacts onSender
+  sender-by = rw (d .is)
+
+  pub seeking-from : isMailFrom (part w p end) ≡ true → reacts phase.seeking (base + p) (part w p e) ≡ tried (base + p) (part w p end)
+  unfolding reacts onSeeking
+  seeking-from h = rw (← (d .is), h)
+
+  pub seeking-on : isMailFrom (part w p end) ≡ false → reacts phase.seeking (base + p) (part w p e) ≡ then [] phase.seeking
+  unfolding reacts onSeeking
+  seeking-on h = rw (← (d .is), h)
+
+  pub recipient-data : isData (part w p end) ≡ true → reacts phase.recipient (base + p) (part w p e) ≡ then [] (phase.head Smtp unknown [])
+  unfolding reacts onRecipient
+  recipient-data h = rw (← (d .is), h)
+
+  module _ (h : isData (part w p end) ≡ false) where
+    pub recipient-none : Missing ≡ rcptTo (part w p end) → reacts phase.recipient (base + p) (part w p e) ≡ stop [] NoRecipient (base + p)
+    unfolding reacts onRecipient byRecipient
+    recipient-none q = rw (← (d .is), h, ← q)
+
+    pub recipient-given : {o n : ℕ} → Given o n ≡ rcptTo (part w p end)
+        → reacts phase.recipient (base + p) (part w p e) ≡ then (ev event.recipient (base + p + o) n Unsaid ∷ []) phase.recipient
+    unfolding reacts onRecipient byRecipient
+    recipient-given q = rw (← (d .is), h, ← q)
+
+  -- ---- lines that are listed
+  pub reply-last : startsWith (text "221") (part w p end) ≡ true
+      → reacts phase.reply (base + p) (part w p e) ≡ stop (ev serverLine (base + p) (end - p) Unsaid ∷ []) Done (base + e)
+  unfolding reacts onReply
+  reply-last h = rw (clean-length d, ← (d .is), h, to-end base (d .ends))
+
+  pub reply-on : startsWith (text "221") (part w p end) ≡ false
+      → reacts phase.reply (base + p) (part w p e) ≡ then (ev serverLine (base + p) (end - p) Unsaid ∷ []) phase.reply
+  unfolding reacts onReply
+  reply-on h = rw (clean-length d, ← (d .is), h)
+
+  pub status-tls : stlsAnswer (part w p end) ≡ true
+      → reacts phase.status (base + p) (part w p e) ≡ stop (ev serverLine (base + p) (end - p) Unsaid ∷ []) Done (base + e)
+  unfolding reacts onStatus
+  status-tls h = rw (clean-length d, ← (d .is), h, to-end base (d .ends))
+
+  module _ (h : stlsAnswer (part w p end) ≡ false) where
+    pub status-mail : retrAnswer (part w p end) ≡ true
+        → reacts phase.status (base + p) (part w p e) ≡ then (ev serverLine (base + p) (end - p) Unsaid ∷ []) (phase.head Pop3 unknown [])
+    unfolding reacts onStatus
+    status-mail g = rw (clean-length d, ← (d .is), h, g)
+
+    pub status-on : retrAnswer (part w p end) ≡ false
+        → reacts phase.status (base + p) (part w p e) ≡ then (ev serverLine (base + p) (end - p) Unsaid ∷ []) phase.status
+    unfolding reacts onStatus
+    status-on g = rw (clean-length d, ← (d .is), h, g)
+
+  pub command-append : {n : ℕ} → isAppend (part w p end) ≡ true → n ≡ appendSize (part w p end)
+      → reacts phase.command (base + p) (part w p e) ≡ then (ev clientLine (base + p) (end - p) Unsaid ∷ []) (phase.offered n)
+  unfolding reacts onCommand
+  command-append h g = rw (clean-length d, ← (d .is), h, g)
+
+  pub command-on : isAppend (part w p end) ≡ false
+      → reacts phase.command (base + p) (part w p e) ≡ then (ev clientLine (base + p) (end - p) Unsaid ∷ []) phase.command
+  unfolding reacts onCommand
+  command-on h = rw (clean-length d, ← (d .is), h)
+
+-- ---- behind an append, and behind its literal
+pub offered-mail : (size at : ℕ) (l : List ℕ) → holdsColon l ≡ true → reacts (phase.offered size) at l ≡ reacts (phase.head (Imap size at) unknown []) at l
+unfolding reacts onOffered
+offered-mail size at l h = rw h
+
+pub offered-not : (size at : ℕ) (l : List ℕ) → holdsColon l ≡ false → reacts (phase.offered size) at l ≡ reacts phase.command at l
+unfolding reacts onOffered
+offered-not size at l h = rw h
+
+module _ {w : List ℕ} {p : ℕ} (at : ℕ) where
+  pub closing-crlf : Pair w p crlf → reacts phase.closing at (part w p (p + 2)) ≡ then [] phase.command
+  unfolding reacts onClosing same startsWith
+  closing-crlf d = rw (d .is)
+
+  pub closing-hyphens : Pair w p hyphens → reacts phase.closing at (part w p (p + 2)) ≡ stop [] OpenLiteral at
+  unfolding reacts onClosing same startsWith
+  closing-hyphens d = rw (d .is)
+
+  pub closing-other : NoPair w p → reacts phase.closing at (part w p (p + 2)) ≡ stop [] OpenLiteral at
+  unfolding reacts onClosing
+  closing-other d = rw (d .no-crlf)
+
+-- ---- lines of a mail with no boundary
+module _ (base : ℕ) {w : List ℕ} {p e : ℕ} (m : Mail) (c : Encoding) (d : Ends aLine w p e) where
+  pub text-dot : same dotLine (part w p e) ≡ true
+      → reacts (phase.text m c) (base + p) (part w p e) ≡ record { events = ev bodyStop (base + p) 0 Unsaid ∷ []; next = afterMail m (base + e) }
+  unfolding reacts onText
+  text-dot h = rw (h, to-end base d)
+
+  pub text-line : same dotLine (part w p e) ≡ false → reacts (phase.text m c) (base + p) (part w p e) ≡ then (ev bodyLine (base + p) (e - p) c ∷ []) (phase.text m c)
+  unfolding reacts onText
+  text-line h = rw (h, d .long)
+
+-- ---- a line is listed before any test of it: where it finds no slot, the session is over
+module _ {w : List ℕ} {base p end e : ℕ} (d : Cleaned w p end e) {k t : List ℕ} {log : Log} {a : Stop} {u : List ℕ} where
+  pub reply-full : Full t log (ev serverLine (base + p) (end - p) Unsaid ∷ []) a u
+      → Leaves w base p k t log (fresh (reads phase.reply)) (record { phase = over-at.Over (a .result) (a .place); taken = e; log = a .log }) u
+  unfolding reacts onReply wants
+  reply-full n =
+      leads-full (piece-of phase.reply (d .ends) refl) (cond (startsWith (text "221") (clean (part w p e))) (stop [] Done (base + p + length (part w p e))) (then [] phase.reply) .events)
+      (rw (clean-length d)) n
+
+  pub status-full : Full t log (ev serverLine (base + p) (end - p) Unsaid ∷ []) a u
+      → Leaves w base p k t log (fresh (reads phase.status)) (record { phase = over-at.Over (a .result) (a .place); taken = e; log = a .log }) u
+  unfolding reacts onStatus wants
+  status-full n =
+      leads-full (piece-of phase.status (d .ends) refl)
+      (cond (stlsAnswer (clean (part w p e))) (stop [] Done (base + p + length (part w p e)))
+      (cond (retrAnswer (clean (part w p e))) (then [] (phase.head Pop3 unknown [])) (then [] phase.status)) .events)
+      (rw (clean-length d)) n
+
+  pub command-full : Full t log (ev clientLine (base + p) (end - p) Unsaid ∷ []) a u
+      → Leaves w base p k t log (fresh (reads phase.command)) (record { phase = over-at.Over (a .result) (a .place); taken = e; log = a .log }) u
+  unfolding reacts onCommand wants
+  command-full n =
+      leads-full (piece-of phase.command (d .ends) refl)
+      (cond (isAppend (clean (part w p e))) (then [] (phase.offered (appendSize (clean (part w p e))))) (then [] phase.command) .events)
+      (rw (clean-length d)) n
+
+-- ---- a literal: left + 1 bytes, or as many of them as are shown
+pub literal-piece : (base : ℕ) {w : List ℕ} {p : ℕ} (c : Encoding) (from left : ℕ) → p + left + 1 ≤ length w
+    → Piece w base p (inLiteral c from left) (p + left + 1) (onLiteral c from (base + (p + left + 1) - from))
+unfolding Comes reach
+literal-piece base {w} {p} c from left h =
+    let z : p + (left + 1) ≡ p + left + 1 = omega arith in
+    let l : ltb left (length (drop p w)) ≡ true = lt-ltb left (length (drop p w)) (omega (arith, length-drop p w)) in
+    let d : Ends (bytes left) w p (p + left + 1) = rw z at (ends-at (bytes left) w p (left + 1) (omega arith) (rw l)) in
+    record {
+      on = omega arith;
+      within = h;
+      is = rw (← (to-end base d)) (rw (d .is) at (comes taking by-bytes (under-literal c from) left (base + p) (drop p w)));
+    }
+
+pub literal-waits : {w : List ℕ} {base p : ℕ} {k t : List ℕ} {log : Log} (c : Encoding) (from left : ℕ) → p ≤ length w → length w - p ≤ left → from ≤ base + p
+    → Goes w base p k t log (inLiteral c from left) (record { phase = over-at.Literal c from (left - (length w - p)); taken = length w; log = log }) t
+unfolding stateOf Fits lands pour landed keeps over
+literal-waits {w} {base} {p} {k} {t} {log} c from left h g f =
+    let n : length (drop p w) ≡ length w - p = length-drop p w in
+    let z : base + length w ≡ base + p + (length w - p) = omega arith in
+    record {
+      within = omega arith;
+      fits = omega arith;
+      is = sym (ap (lands base t log) (literal-cut c from left (base + p) (drop p w) (omega (arith, n))) ∙ rw (n, z));
+    }

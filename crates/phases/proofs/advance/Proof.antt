@@ -1,0 +1,50 @@
+-- `phases::advance` meets its contract. The loop's invariant: what is left at the present spot is what was left. Assumes nothing.
+use Prim.Native.Nat.{_-_}
+use native.Mathlib.Omega.{arith}
+use lib.ListN.{length}
+use mathlib.Core.Path.{_∙_}
+use Rattle.phases.proofs.Dispatch.{Arrived, arrived, ready, arrived-on, arrived-last}
+use borrow.Author.Needs.{needs}
+use Rattle.phases.proofs.advance.Statement.{statement}
+use Rattle.phases.proofs.advance.Tie as tie
+
+abbrev Inv-loop : tie.InvT-loop
+Inv-loop w base kept₀ table₀ now₀ kept table now = Arrived w base kept₀ table₀ now₀ kept table now
+
+abbrev μ-loop : tie.MeasureT-loop
+μ-loop w base kept₀ table₀ now₀ kept table now = length w - now .taken
+
+loop-holds : tie.Need-loop-holds Inv-loop μ-loop
+loop-holds c = arrived (c .before .before .before .pre .1)
+
+one-phase-requires : tie.Need-one-phase-requires Inv-loop μ-loop
+one-phase-requires c κs = (c .before .before .before .before .before .before .pre .0, ready (c .before .before .loop .inv))
+
+loop-less : tie.Need-loop-less Inv-loop μ-loop
+loop-less c =
+    let turned = (rw (c .before .next .given .1) at (c .before .before .before .before .before .before .before .one-phase .ensures)) .is in
+    omega (arith, turned .farther, turned .came .within)
+
+-- on to the next phase
+loop-again : tie.Need-loop-again Inv-loop μ-loop
+loop-again c = arrived-on (c .before .before .before .before .before .before .before .before .before .before .loop .inv) (rw (c .before .next .given .1) at (c .before .before .before .before .before .before .before .one-phase .ensures)) (c .before .before .before .before .before .before .before .one-phase .kept .1 .1 .1 .0) (c .before .before .before .before .before .before .before .one-phase .kept .1 .1 .1 .1 .0)
+
+-- the window is over
+returns : tie.Need-returns Inv-loop μ-loop
+returns c = arrived-last (c .before .before .before .before .before .before .before .before .before .before .loop .inv) (rw (c .before .last .given .1) at (c .before .before .before .before .before .before .before .one-phase .ensures))
+
+pub advance-spec : {M : Type 1} → statement M
+advance-spec =
+    tie.close
+    (tie.spec
+    Inv-loop
+    μ-loop
+    loop-holds
+    one-phase-requires
+    (λ c. search needs)
+    loop-less
+    loop-again
+    (λ c. search needs)
+    (λ c. search needs)
+    (λ c. search needs)
+    returns)

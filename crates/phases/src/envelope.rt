@@ -1,0 +1,237 @@
+// An SMTP client's lines up to DATA. Ports `c2s_parser_inner` of smtp.rs.
+ghost use mathlib.Core.List.{List};
+ghost use Prim.Native.Nat.{ℕ, _+_, _≤_};
+ghost use lib.ListN.{length};
+ghost use Rattle.fields.specs.Common.{part};
+ghost use Rattle.rules.specs.Sessions.{limit};
+ghost use Rattle.rules.specs.Smtp.{tried};
+ghost use Rattle.windows.specs.Stands.{Stand};
+ghost use Rattle.phases.specs.Phasing.{TurnIs, stateOf, Piece};
+use crate::Phase;
+use crate::Spot;
+use crate::Turn;
+use crate::turns::onward;
+use crate::turns::over;
+use crate::turns::unheard;
+use events::Encoding;
+use events::Log;
+use events::Outcome;
+use events::PASSWORD;
+use events::RECIPIENT;
+use events::SENDER;
+use events::USER;
+use fields::smtp::Address;
+use fields::smtp::Second;
+use fields::smtp::is_data;
+use fields::smtp::is_mail_from;
+use fields::smtp::mail_from;
+use fields::smtp::rcpt_to;
+use fields::smtp::second_line;
+use fields::smtp::starts_with_helo;
+use reads::Clean;
+use reads::Noted;
+use reads::Read;
+use reads::clean_line;
+use reads::line;
+use reads::note;
+use rules::Mail;
+
+pub fn hello(w: &[u8], base: usize, p: usize, log: Log) -> Turn
+    requires { ⌜ (base + length (now w) ≤ limit) × (p ≤ length (now w)) ⌝ }
+    ensures { λ r. ⌜ ((k t : List ℕ) → TurnIs (now (w .entry)) base p k t log (stateOf k Phase.Hello) r t) ⌝ }
+{
+    match line(w, p) {
+        Read::Stop(_) => Turn::Stop(Spot {
+            phase: Phase::Hello,
+            taken: p,
+            log,
+        }),
+        Read::To(e) => {
+            if starts_with_helo(&w[p..e]) {
+                return Turn::On(Spot {
+                    phase: Phase::Second,
+                    taken: e,
+                    log,
+                });
+            }
+            Turn::On(Spot {
+                phase: Phase::Over(Outcome::NoHello, 0),
+                taken: e,
+                log,
+            })
+        }
+    }
+}
+
+pub fn second(w: &[u8], base: usize, p: usize, table: &mut [u32], log: Log) -> Turn
+    requires { ⌜ (base + length (now w) ≤ limit) × (p ≤ length (now w)) ⌝ }
+    ensures { λ r. ⌜ ((k : List ℕ) → TurnIs (now (w .entry)) base p k (now (table .entry)) log (stateOf k Phase.Second) r (now (table .exit))) ⌝ }
+{
+    match clean_line(w, p) {
+        Clean::Stop(_) => Turn::Stop(Spot {
+            phase: Phase::Second,
+            taken: p,
+            log,
+        }),
+        Clean::To(end, e) => match second_line(&w[p..end]) {
+            Second::StartTls => Turn::On(Spot {
+                phase: Phase::Over(Outcome::StartTls, base + p),
+                taken: e,
+                log,
+            }),
+            Second::AuthLogin => Turn::On(Spot {
+                phase: Phase::User,
+                taken: e,
+                log,
+            }),
+            Second::MailFrom => tried(w, base, p, end, e, table, log),
+            Second::Other => Turn::On(Spot {
+                phase: Phase::Seeking,
+                taken: e,
+                log,
+            }),
+        },
+    }
+}
+
+// The line from p up to `end`, tried as sender; reading goes on at e.
+fn tried(w: &[u8], base: usize, p: usize, end: usize, e: usize, table: &mut [u32], log: Log) -> Turn
+    requires { ⌜ (base + length (now w) ≤ limit) × (p ≤ end) × (end ≤ e) × (e ≤ length (now w)) ⌝ }
+    ensures { λ r. ⌜ ((k : List ℕ) (f : Stand) → Piece (now (w .entry)) base p f e (tried (base + p) (part (now (w .entry)) p end)) → TurnIs (now (w .entry)) base p k (now (table .entry)) log f r (now (table .exit))) ⌝ }
+{
+    match mail_from(&w[p..end]) {
+        Address::Missing => Turn::On(Spot {
+            phase: Phase::Recipient,
+            taken: e,
+            log,
+        }),
+        Address::Given(o, n) => {
+            let noted = note(table, log, SENDER, base + p + o, n, Encoding::Unsaid);
+            onward(noted, Phase::Recipient, e)
+        }
+    }
+}
+
+pub fn user(w: &[u8], base: usize, p: usize, table: &mut [u32], log: Log) -> Turn
+    requires { ⌜ (base + length (now w) ≤ limit) × (p ≤ length (now w)) ⌝ }
+    ensures { λ r. ⌜ ((k : List ℕ) → TurnIs (now (w .entry)) base p k (now (table .entry)) log (stateOf k Phase.User) r (now (table .exit))) ⌝ }
+{
+    match clean_line(w, p) {
+        Clean::Stop(_) => Turn::Stop(Spot {
+            phase: Phase::User,
+            taken: p,
+            log,
+        }),
+        Clean::To(end, e) => {
+            let noted = note(table, log, USER, base + p, end - p, Encoding::Unsaid);
+            onward(noted, Phase::Password, e)
+        }
+    }
+}
+
+pub fn password(w: &[u8], base: usize, p: usize, table: &mut [u32], log: Log) -> Turn
+    requires { ⌜ (base + length (now w) ≤ limit) × (p ≤ length (now w)) ⌝ }
+    ensures { λ r. ⌜ ((k : List ℕ) → TurnIs (now (w .entry)) base p k (now (table .entry)) log (stateOf k Phase.Password) r (now (table .exit))) ⌝ }
+{
+    match clean_line(w, p) {
+        Clean::Stop(_) => Turn::Stop(Spot {
+            phase: Phase::Password,
+            taken: p,
+            log,
+        }),
+        Clean::To(end, e) => {
+            let noted = note(table, log, PASSWORD, base + p, end - p, Encoding::Unsaid);
+            onward(noted, Phase::Sender, e)
+        }
+    }
+}
+
+pub fn sender(w: &[u8], base: usize, p: usize, table: &mut [u32], log: Log) -> Turn
+    requires { ⌜ (base + length (now w) ≤ limit) × (p ≤ length (now w)) ⌝ }
+    ensures { λ r. ⌜ ((k : List ℕ) → TurnIs (now (w .entry)) base p k (now (table .entry)) log (stateOf k Phase.Sender) r (now (table .exit))) ⌝ }
+{
+    match clean_line(w, p) {
+        Clean::Stop(_) => Turn::Stop(Spot {
+            phase: Phase::Sender,
+            taken: p,
+            log,
+        }),
+        Clean::To(end, e) => tried(w, base, p, end, e, table, log),
+    }
+}
+
+// Lines up to one that begins MAIL FROM:, and that is tried.
+pub fn seeking(w: &[u8], base: usize, at: usize, table: &mut [u32], log: Log) -> Turn
+    requires { ⌜ (base + length (now w) ≤ limit) × (at ≤ length (now w)) ⌝ }
+    ensures { λ r. ⌜ ((k : List ℕ) → TurnIs (now (w .entry)) base at k (now (table .entry)) log (stateOf k Phase.Seeking) r (now (table .exit))) ⌝ }
+{
+    let mut p = at;
+    loop {
+        match clean_line(w, p) {
+            Clean::Stop(_) => {
+                return Turn::Stop(Spot {
+                    phase: Phase::Seeking,
+                    taken: p,
+                    log,
+                });
+            }
+            Clean::To(end, e) => {
+                if is_mail_from(&w[p..end]) {
+                    return tried(w, base, p, end, e, table, log);
+                }
+                p = e;
+            }
+        }
+    }
+}
+
+// Recipients, up to DATA.
+pub fn recipients(w: &[u8], base: usize, at: usize, table: &mut [u32], log: Log) -> Turn
+    requires { ⌜ (base + length (now w) ≤ limit) × (at ≤ length (now w)) ⌝ }
+    ensures { λ r. ⌜ ((k : List ℕ) → TurnIs (now (w .entry)) base at k (now (table .entry)) log (stateOf k Phase.Recipient) r (now (table .exit))) ⌝ }
+{
+    let mut p = at;
+    let mut n = log;
+    loop {
+        match clean_line(w, p) {
+            Clean::Stop(_) => {
+                return Turn::Stop(Spot {
+                    phase: Phase::Recipient,
+                    taken: p,
+                    log: n,
+                });
+            }
+            Clean::To(end, e) => {
+                if is_data(&w[p..end]) {
+                    let phase = Phase::Head(Mail::Smtp, unheard(), 0);
+                    return Turn::On(Spot {
+                        phase,
+                        taken: e,
+                        log: n,
+                    });
+                }
+                match rcpt_to(&w[p..end]) {
+                    Address::Missing => {
+                        let phase = Phase::Over(Outcome::NoRecipient, base + p);
+                        return Turn::On(Spot {
+                            phase,
+                            taken: e,
+                            log: n,
+                        });
+                    }
+                    Address::Given(o, m) => {
+                        match note(table, n, RECIPIENT, base + p + o, m, Encoding::Unsaid) {
+                            Noted::Stopped(a) => {
+                                return over(a, e);
+                            }
+                            Noted::Written(next) => {
+                                p = e;
+                                n = next;
+                            }
+                        }
+                    }
+                }
+            }
+        }
+    }
+}

@@ -1,0 +1,214 @@
+// Lines of the other sides: an SMTP server's replies, a POP3 server's status lines, an IMAP client's commands and what surrounds its literals.
+ghost use mathlib.Core.List.{List};
+ghost use Prim.Native.Nat.{ℕ, _+_, _≤_};
+ghost use lib.ListN.{length};
+ghost use Rattle.rules.specs.Sessions.{limit};
+ghost use Rattle.phases.specs.Phasing.{TurnIs, HeadIs, stateOf, Slots};
+use crate::Phase;
+use crate::Spot;
+use crate::Turn;
+use crate::header::head;
+use crate::turns::over;
+use crate::turns::unheard;
+use events::CLIENT_LINE;
+use events::Encoding;
+use events::Log;
+use events::Outcome;
+use events::SERVER_LINE;
+use fields::imap::append;
+use fields::imap::append_size;
+use fields::imap::has_colon;
+use fields::pop3::retr_answer;
+use fields::pop3::stls_answer;
+use reads::Clean;
+use reads::Noted;
+use reads::Read;
+use reads::Two;
+use reads::clean_line;
+use reads::line;
+use reads::note;
+use reads::two_bytes;
+use rules::Mail;
+
+// Up to a line that begins 221.
+pub fn replies(w: &[u8], base: usize, at: usize, table: &mut [u32], log: Log) -> Turn
+    requires { ⌜ (base + length (now w) ≤ limit) × (at ≤ length (now w)) ⌝ }
+    ensures { λ r. ⌜ ((k : List ℕ) → TurnIs (now (w .entry)) base at k (now (table .entry)) log (stateOf k Phase.Reply) r (now (table .exit))) ⌝ }
+{
+    let mut p = at;
+    let mut n = log;
+    loop {
+        match clean_line(w, p) {
+            Clean::Stop(_) => {
+                return Turn::Stop(Spot {
+                    phase: Phase::Reply,
+                    taken: p,
+                    log: n,
+                });
+            }
+            Clean::To(end, e) => {
+                match note(table, n, SERVER_LINE, base + p, end - p, Encoding::Unsaid) {
+                    Noted::Stopped(a) => {
+                        return over(a, e);
+                    }
+                    Noted::Written(next) => {
+                        if reading::starts_with(&w[p..end], b"221") {
+                            let phase = Phase::Over(Outcome::Done, base + e);
+                            return Turn::On(Spot {
+                                phase,
+                                taken: e,
+                                log: next,
+                            });
+                        }
+                        p = e;
+                        n = next;
+                    }
+                }
+            }
+        }
+    }
+}
+
+// Up to a TLS answer or a retrieval.
+pub fn statuses(w: &[u8], base: usize, at: usize, table: &mut [u32], log: Log) -> Turn
+    requires { ⌜ (base + length (now w) ≤ limit) × (at ≤ length (now w)) ⌝ }
+    ensures { λ r. ⌜ ((k : List ℕ) → TurnIs (now (w .entry)) base at k (now (table .entry)) log (stateOf k Phase.Status) r (now (table .exit))) ⌝ }
+{
+    let mut p = at;
+    let mut n = log;
+    loop {
+        match clean_line(w, p) {
+            Clean::Stop(_) => {
+                return Turn::Stop(Spot {
+                    phase: Phase::Status,
+                    taken: p,
+                    log: n,
+                });
+            }
+            Clean::To(end, e) => {
+                match note(table, n, SERVER_LINE, base + p, end - p, Encoding::Unsaid) {
+                    Noted::Stopped(a) => {
+                        return over(a, e);
+                    }
+                    Noted::Written(next) => {
+                        if stls_answer(&w[p..end]) {
+                            let phase = Phase::Over(Outcome::Done, base + e);
+                            return Turn::On(Spot {
+                                phase,
+                                taken: e,
+                                log: next,
+                            });
+                        }
+                        if retr_answer(&w[p..end]) {
+                            let phase = Phase::Head(Mail::Pop3, unheard(), 0);
+                            return Turn::On(Spot {
+                                phase,
+                                taken: e,
+                                log: next,
+                            });
+                        }
+                        p = e;
+                        n = next;
+                    }
+                }
+            }
+        }
+    }
+}
+
+// Up to an append.
+pub fn commands(w: &[u8], base: usize, at: usize, table: &mut [u32], log: Log) -> Turn
+    requires { ⌜ (base + length (now w) ≤ limit) × (at ≤ length (now w)) ⌝ }
+    ensures { λ r. ⌜ ((k : List ℕ) → TurnIs (now (w .entry)) base at k (now (table .entry)) log (stateOf k Phase.Command) r (now (table .exit))) ⌝ }
+{
+    let mut p = at;
+    let mut n = log;
+    loop {
+        match clean_line(w, p) {
+            Clean::Stop(_) => {
+                return Turn::Stop(Spot {
+                    phase: Phase::Command,
+                    taken: p,
+                    log: n,
+                });
+            }
+            Clean::To(end, e) => {
+                match note(table, n, CLIENT_LINE, base + p, end - p, Encoding::Unsaid) {
+                    Noted::Stopped(a) => {
+                        return over(a, e);
+                    }
+                    Noted::Written(next) => {
+                        if append(&w[p..end]) {
+                            let phase = Phase::Offered(append_size(&w[p..end]));
+                            return Turn::On(Spot {
+                                phase,
+                                taken: e,
+                                log: next,
+                            });
+                        }
+                        p = e;
+                        n = next;
+                    }
+                }
+            }
+        }
+    }
+}
+
+// Behind an append: a mail of so many bytes if the line, only peeked at, holds a colon; else a command.
+pub fn offered(
+    w: &[u8],
+    base: usize,
+    p: usize,
+    size: u64,
+    kept: &mut [u8],
+    table: &mut [u32],
+    log: Log,
+) -> Turn
+    requires { ⌜ (base + length (now w) ≤ limit) × (p ≤ length (now w)) × Slots (now kept) ⌝ }
+    ensures { λ r. ⌜ HeadIs (now (w .entry)) base p (now (kept .entry)) (now (table .entry)) log (Phase.Offered size) r (now (kept .exit)) (now (table .exit)) ⌝ }
+{
+    match line(w, p) {
+        Read::Stop(_) => Turn::Stop(Spot {
+            phase: Phase::Offered(size),
+            taken: p,
+            log,
+        }),
+        Read::To(e) => {
+            if has_colon(&w[p..e]) {
+                let mail = Mail::Imap(size, base + p);
+                return head(w, base, p, mail, unheard(), 0, kept, table, log);
+            }
+            commands(w, base, p, table, log)
+        }
+    }
+}
+
+// The two bytes behind a literal.
+pub fn closing(w: &[u8], base: usize, p: usize, log: Log) -> Turn
+    requires { ⌜ (base + length (now w) ≤ limit) × (p ≤ length (now w)) ⌝ }
+    ensures { λ r. ⌜ ((k t : List ℕ) → TurnIs (now (w .entry)) base p k t log (stateOf k Phase.Closing) r t) ⌝ }
+{
+    match two_bytes(w, p) {
+        Two::Stop(_) => Turn::Stop(Spot {
+            phase: Phase::Closing,
+            taken: p,
+            log,
+        }),
+        Two::Crlf => Turn::On(Spot {
+            phase: Phase::Command,
+            taken: p + 2,
+            log,
+        }),
+        Two::Hyphens => Turn::On(Spot {
+            phase: Phase::Over(Outcome::OpenLiteral, base + p),
+            taken: p + 2,
+            log,
+        }),
+        Two::Other => Turn::On(Spot {
+            phase: Phase::Over(Outcome::OpenLiteral, base + p),
+            taken: p + 2,
+            log,
+        }),
+    }
+}

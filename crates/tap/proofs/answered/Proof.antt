@@ -1,0 +1,11 @@
+-- `tap::answered` meets its contract. Assumes nothing.
+use mathlib.Core.Path.{refl}
+use borrow.Author.Needs.{needs}
+use Rattle.tap.proofs.answered.Statement.{statement}
+use Rattle.tap.proofs.answered.Tie as tie
+
+returns : tie.Need-returns
+returns c = record { session = refl; answer = λ u. c .answer-of .ensures _ u; taken = refl }
+
+pub answered-spec : {M : Type 1} → statement M
+answered-spec = tie.close (tie.spec (λ c. search needs) (λ c κs. search needs) returns)

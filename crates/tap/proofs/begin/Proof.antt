@@ -1,0 +1,12 @@
+-- `tap::begin` meets its contract. Assumes nothing.
+use mathlib.Core.Path.{refl}
+use Rattle.tap.proofs.Sounds.{begun-so, zeros}
+use borrow.Author.Needs.{needs}
+use Rattle.tap.proofs.begin.Statement.{statement}
+use Rattle.tap.proofs.begin.Tie as tie
+
+returns : tie.Need-returns
+returns c = begun-so (c .before .args .entry) (c .first-phase .ensures) refl refl (zeros 648)
+
+pub begin-spec : {M : Type 1} → statement M
+begin-spec = tie.close (tie.spec (λ c κs. search needs) returns)

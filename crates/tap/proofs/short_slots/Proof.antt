@@ -1,0 +1,57 @@
+-- `tap::short_slots` meets its contract. The loop's invariant: the copies from number i on are short. Assumes nothing.
+use mathlib.Core.Path.{_≡_, refl, sym, _∙_}
+use Prim.Native.Nat.{_≤_}
+use native.Mathlib.Omega.{arith}
+use Rattle.tap.specs.Tapping.{shortTo}
+use Rattle.tap.proofs.Sounds.{short-step, short-not, short-none}
+use borrow.Author.Needs.{needs}
+use Rattle.tap.proofs.short_slots.Statement.{statement}
+use Rattle.tap.proofs.short_slots.Tie as tie
+
+abbrev Inv-loop : tie.InvT-loop
+Inv-loop boundaries i₀ i = (i ≤ 9) × (shortTo boundaries 9 ≡ shortTo boundaries i)
+
+abbrev μ-loop : tie.MeasureT-loop
+μ-loop boundaries i₀ i = i
+
+loop-holds : tie.Need-loop-holds Inv-loop μ-loop
+loop-holds c = (omega arith, refl)
+
+sub-i : tie.Need-sub-i Inv-loop μ-loop
+sub-i c = omega arith
+
+mul-if1 : tie.Need-mul-if1 Inv-loop μ-loop
+mul-if1 c = omega (arith, c .before .loop .inv .0)
+
+element-copy-out-if1 : tie.Need-element-copy-out-if1 Inv-loop μ-loop
+element-copy-out-if1 c = omega (arith, c .before .loop .inv .0)
+
+-- one is longer
+returns : tie.Need-returns Inv-loop μ-loop
+returns c = sym (c .before .before .before .loop .inv .1 ∙ short-not _ _ (omega arith) (c .if1 .taken))
+
+loop-less : tie.Need-loop-less Inv-loop μ-loop
+loop-less c = omega arith
+
+-- it is not
+loop-again : tie.Need-loop-again Inv-loop μ-loop
+loop-again c = (omega (arith, c .before .before .before .loop .inv .0), c .before .before .before .loop .inv .1 ∙ short-step _ _ (omega arith) (omega arith))
+
+-- none is left
+returns-2 : tie.Need-returns-2 Inv-loop μ-loop
+returns-2 c = sym (c .before .loop .inv .1 ∙ short-none _ _ (omega arith))
+
+pub short-slots-spec : {M : Type 1} → statement M
+short-slots-spec =
+    tie.close
+    (tie.spec
+    Inv-loop
+    μ-loop
+    loop-holds
+    sub-i
+    mul-if1
+    element-copy-out-if1
+    returns
+    loop-less
+    loop-again
+    returns-2)
