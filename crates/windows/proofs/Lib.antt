@@ -1,3 +1,4 @@
+pub mod Computed
 pub mod Piecemeal
 pub mod Marks
 pub mod Delimiters

@@ -1,0 +1,160 @@
+-- The definition, computed: telling sessions by windows, with the answers that the oracle gives to each of them.
+-- Assumes nothing.
+use mathlib.Core.Path.{_≡_, refl}
+use mathlib.Core.List.{List, [], _∷_, _++_, map}
+use Prim.Native.String.{String}
+use Rattle.classes.specs.Classes.{upperOf, isLetter, isUpper, isWhite, isBlank, isPopWhite, isDigit}
+use Rattle.events.specs.Events.{resultNumber}
+use Rattle.reading.specs.Text.{text}
+use Rattle.reading.specs.Bytes.{startsWith, same, endsWith, raised, first, firstPlace, holds, stands, found, contains}
+use Rattle.reading.specs.Reading.{clean, dropEnd, mayStand, delimits, past, reach, parted, fetch}
+use Rattle.fields.specs.Runs.{runs, lead, last, lastPlace, through, worthBehind, worth}
+use Rattle.fields.specs.Common.{encodingNamed, behindSpaces, transferEncoding, closed, quoted, unquoted, typed, named, bareParameter, parameter, contentType, contentTypeExt}
+use Rattle.fields.specs.Common.{firstEncoding, byType, byExt, byBoundary, scanned, dashBdry}
+use Rattle.fields.specs.Smtp.{startsWithHelo, isMailFrom, secondLine, isData, upToEnd, closing as closingAt, mailFrom, required, rcptTo}
+use Rattle.fields.specs.Pop3.{stlsAnswer, octets, octetsFollow, numbered, retrAnswer}
+use Rattle.fields.specs.Imap.{appendFollows, isAppend, dark, trimmed, braced, fromBrace, sizeOf, appendSize, holdsColon}
+use Rattle.rules.specs.Machine.{turn, go, run}
+use Rattle.rules.specs.Phases.{wants, need}
+use Rattle.rules.specs.Mail.{afterMail, literalBody, rest, plainMail, boundaryFree, begun, onHead, onText, held, whole, onLiteral}
+use Rattle.rules.specs.Mail.{onPreamble, onOpened, contentLength, onContent, outermost, byRest, skip, onBetween, lastLine, popped, onSkipping, onResting}
+use Rattle.rules.specs.Smtp.{onHello, given, bySecond, onSecond, onUser, onPassword, onSender, onSeeking, byRecipient, onRecipient, onReply}
+use Rattle.rules.specs.Pop3.{onStatus}
+use Rattle.rules.specs.Imap.{onCommand, onOffered, onClosing}
+use Rattle.rules.specs.declared.Entry.{Entry}
+use Rattle.rules.specs.declared.Entry.the-variants.{SmtpClient, SmtpServer, Pop3Server, ImapClient}
+use mathlib.Core.Bool.{Bool, true, false}
+use mathlib.Core.Option.{some}
+use Prim.Native.Nat.{ℕ, _+_, _*_, _-_}
+use lib.ListN.{length, replicate}
+use Rattle.events.specs.Table.{store, pour}
+use Rattle.events.specs.declared.Encoding.the-variants.{Unsaid}
+use Rattle.rules.specs.Phases as phase
+use Rattle.rules.specs.Phases.{reads}
+use Rattle.rules.specs.Sessions.{reacts, react, resultOf, placeOf, startOf}
+use Rattle.rules.specs.declared.Mail.the-variants.{Smtp}
+use Rattle.windows.specs.Pieces.{word, orElse, standing, pieceOf, isAt, isMark}
+use Rattle.windows.specs.Stands.{fresh, copied, clipped, opens, enters, enter, takes, does, standResult, standPlace}
+use Rattle.windows.specs.Windows.{Record, said, over, keeps, refused, landed, lands, window, taken, Tap, tapped, shows}
+
+-- what a window took, result, place and count; and an event as it is listed
+abbrev Row : Type 0
+Row = ℕ × ℕ × ℕ × ℕ
+
+abbrev flat : List Row → List ℕ
+flat [] = []
+flat (r ∷ rs) = r .0 ∷ r .1 ∷ r .2 ∷ r .3 ∷ flat rs
+
+abbrev row : ℕ → Record → List ℕ → List ℕ
+row n r t = n ∷ resultNumber (said r t .result) ∷ said r t .place ∷ said r t .count ∷ []
+
+-- the rows of windows one after another, and the table then
+unfoldable pub trace : Tap → List (List ℕ) → List ℕ
+trace x [] = x .table
+trace x (w ∷ ws) = row (shows x w .session .at - x .session .at) (shows x w .session) (shows x w .table) ++ trace (shows x w) ws
+
+record Case : Type 0 where
+  answers : List ℕ
+  wanted : List ℕ
+
+-- a table of so many slots and a number over, each number 99; the windows; the rows wanted, and the events
+abbrev on : ℕ → Entry → List (List ℕ) → List Row → List Row → Case
+on n e ws rs es =
+    record {
+      answers = trace (tapped (startOf e) (replicate (4 * n + 1) 99)) ws;
+      wanted = flat rs ++ (flat es ++ replicate (4 * n + 1 - 4 * length es) 99);
+    }
+
+abbrev sessions : List Case
+sessions =
+    -- a literal, of which all bytes shown are taken; the place stays where it began; its CRLF is waited for
+    on 12 ImapClient (text "a APPEND x {11}\r" ∷ text "\nT: u\r\n\r\nh" ∷ text "" ∷ text "e" ∷ text "y\r" ∷ text "\n" ∷ text "b\r\n" ∷ [])
+    ((0, 1, 0, 0) ∷ (26, 1, 25, 4) ∷ (0, 1, 25, 4) ∷ (1, 1, 25, 4) ∷ (1, 1, 28, 6) ∷ (2, 1, 30, 6) ∷ (3, 1, 33, 7) ∷ [])
+    ((7, 0, 15, 0) ∷ (1, 17, 6, 0) ∷ (1, 23, 2, 0) ∷ (2, 25, 0, 0) ∷ (4, 25, 3, 0) ∷ (6, 28, 0, 0) ∷ (7, 30, 1, 0) ∷ []) ∷
+    -- a preamble and a content by lines: none is taken before it is finished, and no delimiter stands behind a bare LF
+    on 12 Pop3Server (text "+OK 9 octets\r\nContent-Type: m; boundary=q\r\n\r\np" ∷ text "re\r\n-" ∷ text "-q\r" ∷ text "\n\r\na\r" ∷ text "\nb\n--q\r\nc" ∷ text "\r\n--" ∷ text "q" ∷ text "--\r\n." ∷ text "\r\n" ∷ [])
+    ((45, 1, 45, 3) ∷ (5, 1, 45, 3) ∷ (3, 1, 53, 3) ∷ (4, 1, 57, 5) ∷ (10, 1, 57, 5) ∷ (3, 1, 57, 5) ∷ (3, 1, 73, 7) ∷ (4, 1, 77, 7) ∷ (3, 1, 80, 7) ∷ [])
+    ((8, 0, 12, 0) ∷ (1, 14, 29, 0) ∷ (1, 43, 2, 0) ∷ (1, 55, 2, 0) ∷ (2, 57, 0, 0) ∷ (5, 57, 11, 0) ∷ (6, 68, 0, 0) ∷ []) ∷
+    -- a delimiter is read though its line is not finished; the refusal takes nothing of its window
+    on 8 Pop3Server (text "+OK 9 octets\r\nContent-Type: m; boundary=q\r\n\r\n" ∷ text "--q\r\n\r\nab\r\n--qq\r\n" ∷ [])
+    ((45, 1, 45, 3) ∷ (0, 6, 59, 7) ∷ [])
+    ((8, 0, 12, 0) ∷ (1, 14, 29, 0) ∷ (1, 43, 2, 0) ∷ (1, 50, 2, 0) ∷ (2, 52, 0, 0) ∷ (5, 52, 2, 0) ∷ (6, 54, 0, 0) ∷ []) ∷
+    -- a boundary of 71 bytes: 12 behind the blank line, and again however much is shown
+    on 12 Pop3Server (text "+OK 1 octets\r\nContent-Type: m; boundary=bbbbbbbbbbbbbbbbbbbbbbbbbbbbbbbbbbbbbbbbbbbbbbbbbbbbbbbbbbbbbbbbbbbbbbb\r\n\r" ∷ text "\n--x" ∷ text "y" ∷ [])
+    ((113, 1, 113, 2) ∷ (0, 12, 115, 3) ∷ (0, 12, 115, 3) ∷ [])
+    ((8, 0, 12, 0) ∷ (1, 14, 99, 0) ∷ (1, 113, 2, 0) ∷ []) ∷
+    -- one of 70 bytes is none too long
+    on 12 Pop3Server (text "+OK 1 octets\r\nContent-Type: m; boundary=bbbbbbbbbbbbbbbbbbbbbbbbbbbbbbbbbbbbbbbbbbbbbbbbbbbbbbbbbbbbbbbbbbbbbb\r\n\r\n--bbbbbbbbbbbbbbbbbbbbbbbbbbbbbbbbbbbbbbbbbbbbbbbbbbbbbbbbbbbbbbbbbbbbbb\r\n" ∷ [])
+    ((188, 1, 188, 3) ∷ [])
+    ((8, 0, 12, 0) ∷ (1, 14, 98, 0) ∷ (1, 112, 2, 0) ∷ []) ∷
+    -- a refusal takes nothing, of lines before it in the window neither
+    on 12 SmtpClient (text "EHLO a\r\nSTART" ∷ text "TLS\r\nx" ∷ [])
+    ((8, 1, 8, 0) ∷ (0, 4, 8, 0) ∷ [])
+    [] ∷
+    -- done takes up to its place; then nothing is taken, and the answer stays
+    on 12 SmtpServer (text "220 a\r\n221 b" ∷ text "ye\r\nrest" ∷ text "" ∷ text "more" ∷ [])
+    ((7, 1, 7, 1) ∷ (9, 0, 16, 2) ∷ (0, 0, 16, 2) ∷ (0, 0, 16, 2) ∷ [])
+    ((8, 0, 5, 0) ∷ (8, 7, 7, 0) ∷ []) ∷
+    -- a line that is only peeked at is taken when it is read as a command
+    on 12 ImapClient (text "a APPEND {9}\r\nb" ∷ text "c\r\nd: e\r\n" ∷ [])
+    ((14, 1, 14, 1) ∷ (10, 1, 24, 3) ∷ [])
+    ((7, 0, 12, 0) ∷ (7, 14, 2, 0) ∷ (7, 18, 4, 0) ∷ []) ∷
+    -- the table is full: 10, and nothing is taken
+    on 1 SmtpServer (text "220 a\r\n220 b\r\n" ∷ text "220 c\r\n" ∷ [])
+    ((0, 10, 7, 1) ∷ (0, 10, 7, 1) ∷ [])
+    ((8, 0, 5, 0) ∷ []) ∷
+    []
+
+-- ---- records that would take long to come to
+
+-- one window shown to a record, with a table of two slots
+abbrev one : Record → List ℕ → Row → Case
+one r w wanted =
+    record {
+      answers = row (window r (replicate 8 99) w .next .at - r .at) (window r (replicate 8 99) w .next) (window r (replicate 8 99) w .table);
+      wanted = flat (wanted ∷ []);
+    }
+
+-- a reply of a session that has taken so many bytes and listed 5 events
+abbrev after : ℕ → Record
+after n = record { stand = fresh (reads phase.reply); at = n; log = record { count = 5 } }
+
+-- a header inside so many levels, whose boundary has 71 bytes
+abbrev deep : ℕ → Record
+deep n =
+    record {
+      stand = fresh (reads (phase.head Smtp (record { encoding = Unsaid; typeSeen = true; boundary = some (replicate 71 98) }) (replicate n (98 ∷ []))));
+      at = 100;
+      log = record { count = 0 };
+    }
+
+abbrev records : List Case
+records =
+    -- the limit is on the session: just so many pass, and one more is 2 before the window is read, with the events kept
+    one (after 16777213) (text "220") (0, 1, 16777213, 5) ∷
+    one (after 16777213) (text "220\n") (0, 2, 0, 5) ∷
+    -- 12 after 9, with 9's place
+    one (deep 7) (text "\r\n") (0, 12, 102, 1) ∷
+    one (deep 8) (text "\r\n") (0, 9, 102, 1) ∷
+    []
+
+abbrev Holds : List Case → Type 0
+Holds cs = map (λ c. c .answers) cs ≡ map (λ c. c .wanted) cs
+
+both : Holds sessions × Holds records
+unfolding trace shows taken window refused lands landed keeps over said enter enters opens copied clipped takes does standResult standPlace word orElse standing
+    pieceOf isAt isMark resultOf placeOf react reacts need wants run go turn fetch parted reach past first firstPlace holds stands found contains
+    delimits mayStand startsWith same endsWith raised clean dropEnd upperOf isLetter isUpper isWhite isBlank isPopWhite isDigit store pour
+    lead runs last lastPlace through worth worthBehind transferEncoding encodingNamed behindSpaces closed quoted unquoted typed named bareParameter
+    parameter contentType contentTypeExt firstEncoding byType byExt byBoundary scanned dashBdry startsWithHelo isMailFrom secondLine isData upToEnd
+    closingAt mailFrom required rcptTo stlsAnswer octets octetsFollow numbered retrAnswer appendFollows isAppend dark trimmed braced fromBrace sizeOf
+    appendSize holdsColon afterMail literalBody rest plainMail boundaryFree begun onHead onText onLiteral onPreamble onOpened held whole contentLength
+    onContent outermost byRest skip onBetween lastLine popped onSkipping onResting onHello given bySecond onSecond onUser onPassword onSender onSeeking
+    byRecipient onRecipient onReply onStatus onCommand onOffered onClosing
+both = (refl, refl)
+
+pub computed : Holds sessions
+computed = both .0
+
+pub of-records : Holds records
+of-records = both .1
