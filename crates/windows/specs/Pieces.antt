@@ -1,6 +1,6 @@
 -- Reads of lines up to a mark, one piece after another: request W2, 'of a preamble or content every finished line'.
 -- Assumes nothing.
-use mathlib.Core.Bool.{Bool, cond, false, _&&_}
+use mathlib.Core.Bool.{Bool, cond, false}
 use mathlib.Core.List.{List}
 use Prim.Native.Nat.{ℕ}
 use lib.Dec.{eqb}

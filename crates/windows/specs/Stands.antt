@@ -1,6 +1,5 @@
--- Sessions that may be cut anywhere: request W2. Where a session stands is a read of document 01 that begins, or a preamble, a content or a sized body of
--- which a part is taken. All else is document 01's.
--- Assumes nothing.
+-- Sessions that may be cut anywhere: request W2. A session stands where a read of document 01 begins, or where a part of a preamble, a content or a sized body
+-- is taken; all else is document 01's. Assumes nothing.
 use mathlib.Core.Bool.{Bool, true, cond}
 use mathlib.Core.List.{List, []}
 use mathlib.Core.Option.{Option, none, some}
@@ -32,9 +31,7 @@ pub data Stand : Type 0 where
   inContent : Mail → Encoding → List ℕ → List (List ℕ) → (from : ℕ) (here : Bool) → Stand
   inLiteral : Encoding → (from left : ℕ) → Stand
 
--- ---- a phase of document 01 begins
-
--- of a header's boundary one byte more is kept than may be: that it is too long can be told then
+-- ---- a phase of document 01 begins. Of a header's boundary one byte more is copied than may be: that it is too long can be told then
 unfoldable pub copied : Option (List ℕ) → Option (List ℕ)
 copied none = none
 copied (some b) = some (take (longest + 1) b)
