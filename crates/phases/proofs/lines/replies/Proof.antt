@@ -1,15 +1,15 @@
 -- `phases::lines::replies` meets its contract. The loop's invariant: what is left at p is what was left. Assumes nothing.
 use mathlib.Core.Path.{refl, sym, _∙_}
-use mathlib.Core.List.{[]}
 use Prim.Native.Nat.{_-_}
 use native.Mathlib.Omega.{arith}
 use lib.ListN.{length}
+use Rattle.reads.specs.Contracts.{Cleaned}
 use Rattle.rules.specs.Phases.{reads, reply, wants}
 use Rattle.windows.specs.Stands.{fresh, enter, enters}
 use Rattle.phases.specs.Phasing.{stateOf, Fits}
 use Rattle.phases.specs.declared.Phase.the-variants as is
 use Rattle.phases.proofs.Reactions.{reply-full, reply-last, reply-on}
-use Rattle.phases.proofs.Turning.{piece-of, waits-whole, leads-written, first-head, Looped, not-yet, looped-on, looped-leaves, looped-goes}
+use Rattle.phases.proofs.Turning.{piece-of, waits-whole, leads-written, Looped, not-yet, looped-on, looped-leaves, looped-goes}
 use borrow.Author.Needs.{needs}
 use Rattle.phases.proofs.lines.replies.Statement.{statement}
 use Rattle.phases.proofs.lines.replies.Tie as tie
@@ -20,71 +20,112 @@ Inv-loop w base at table₀ p₀ n₀ t13 table p n = Looped w base at table₀ 
 abbrev μ-loop : tie.MeasureT-loop
 μ-loop w base at table₀ p₀ n₀ t13 table p n = length w - p
 
+-- ---- the loop
+abbrev start : tie.At-loop Inv-loop μ-loop → tie.Start Inv-loop μ-loop
+start c = c .before .before .before
+
+-- nothing is read yet
 loop-holds : tie.Need-loop-holds Inv-loop μ-loop
 loop-holds c = not-yet (c .before .before .pre .1)
 
+-- p lies in the window
 clean-line-requires : tie.Need-clean-line-requires Inv-loop μ-loop
 clean-line-requires c κs = c .loop .inv .came .within
 
--- no line yet
+-- no line is finished: the window is over
 returns : tie.Need-returns Inv-loop μ-loop
 unfolding wants stateOf Fits
-returns c = λ k. looped-goes (c .before .before .before .loop .inv) (waits-whole is.Reply reply refl (rw (c .enum-told .given .1) at (c .before .before .clean-line .ensures)) (c .before .before .before .loop .inv .came .within) tt)
+returns c =
+    let called = c .before .before in
+    let inv = called .before .loop .inv in
+    λ k. looped-goes inv (waits-whole is.Reply reply refl (rw (c .enum-told .given .1) at (called .clean-line .ensures)) (inv .came .within) tt)
 
+-- ---- a line that ends at e, its clean part at `end`
+abbrev loop-of : tie.After-end Inv-loop μ-loop → tie.At-loop Inv-loop μ-loop
+loop-of c = c .before .before .before
+
+line-to : (c : tie.After-end Inv-loop μ-loop) →
+    let loop = loop-of c in
+    Cleaned (start loop .args .w .now) (loop .loop .p) (c .end .given .0 .0) (c .end .given .0 .1 .0)
+line-to c = rw (c .end .given .1) at (c .before .before .clean-line .ensures)
+
+-- it begins before the limit
 add-note : tie.Need-add-note Inv-loop μ-loop
-add-note c =
-    let line = rw (c .before .before .end .given .1) at (c .before .before .before .before .clean-line .ensures) in
-    omega (arith, line .ends .on, line .ends .within)
+add-note c = let line = line-to (c .before .before) in omega (arith, line .ends .on, line .ends .within)
 
+-- its clean part ends behind p
 sub-note : tie.Need-sub-note Inv-loop μ-loop
-sub-note c = (rw (c .before .before .end .given .1) at (c .before .before .before .before .clean-line .ensures)) .from
+sub-note c = line-to (c .before .before) .from
 
+-- where it begins and how long it is fit a slot of the table
 note-requires : tie.Need-note-requires Inv-loop μ-loop
 note-requires c κs =
-    let line = rw (c .before .before .end .given .1) at (c .before .before .before .before .clean-line .ensures) in
+    let line = line-to (c .before .before) in
     (omega (arith, line .ends .on, line .ends .within), omega (arith, line .within, line .ends .within))
+
+-- ---- it is noted
+abbrev line-of : tie.After-note Inv-loop μ-loop → tie.After-end Inv-loop μ-loop
+line-of c = c .before .before .before
 
 -- the table is full
 returns-2 : tie.Need-returns-2 Inv-loop μ-loop
 unfolding stateOf
 returns-2 c =
-    let line = rw (c .before .before .before .before .before .before .before .before .before .end .given .1) at (c .before .before .before .before .before .before .before .before .before .before .before .clean-line .ensures) in
-    λ k. rw (c .over .ensures) (looped-leaves (c .before .before .before .before .before .before .before .before .before .before .before .before .loop .inv) (reply-full line (rw (c .before .before .a .given .1) at (c .before .before .before .before .before .before .note .ensures))))
+    let stopped = c .before .before in
+    let noted = stopped .before .before .before .before in
+    let inv = loop-of (line-of noted) .loop .inv in
+    let unwritten = rw (stopped .a .given .1) at (noted .note .ensures) in
+    λ k. rw (c .over .ensures) (looped-leaves inv (reply-full (line-to (line-of noted)) unwritten))
 
+-- it is written
+abbrev noted-of : tie.After-known-told3 Inv-loop μ-loop → tie.After-note Inv-loop μ-loop
+noted-of c = c .before .before .before .before .before
+
+-- what is searched for 221: it ends behind p
 sub-starts-with : tie.Need-sub-starts-with Inv-loop μ-loop
-sub-starts-with c = (rw (c .before .before .before .before .before .before .before .before .end .given .1) at (c .before .before .before .before .before .before .before .before .before .before .clean-line .ensures)) .from
+sub-starts-with c = line-to (line-of (noted-of c)) .from
 
+-- so that it is a part of the window
 part-starts-with-start : tie.Need-part-starts-with-start Inv-loop μ-loop
-part-starts-with-start c = (rw (c .before .before .before .before .before .before .before .before .end .given .1) at (c .before .before .before .before .before .before .before .before .before .before .clean-line .ensures)) .from
+part-starts-with-start c = line-to (line-of (noted-of c)) .from
 
+-- and not behind its end
 part-starts-with-end : tie.Need-part-starts-with-end Inv-loop μ-loop
-part-starts-with-end c =
-    let line = rw (c .before .before .before .before .before .before .before .before .end .given .1) at (c .before .before .before .before .before .before .before .before .before .before .clean-line .ensures) in
-    omega (arith, line .within, line .ends .within)
+part-starts-with-end c = let line = line-to (line-of (noted-of c)) in omega (arith, line .within, line .ends .within)
 
+-- it begins 221: it ends before the limit
 add-t31 : tie.Need-add-t31 Inv-loop μ-loop
-add-t31 c =
-    let line = rw (c .before .before .before .before .before .before .before .before .before .before .before .before .end .given .1) at (c .before .before .before .before .before .before .before .before .before .before .before .before .before .before .clean-line .ensures) in
-    omega (arith, line .ends .on, line .ends .within)
+add-t31 c = let line = line-to (line-of (noted-of (c .before .before .before .before))) in omega (arith, line .ends .on, line .ends .within)
 
--- it begins 221
+-- and the session is over
 returns-3 : tie.Need-returns-3 Inv-loop μ-loop
 unfolding wants stateOf enter enters Fits
 returns-3 c =
-    let line = rw (c .before .before .before .before .before .before .before .before .before .before .before .before .end .given .1) at (c .before .before .before .before .before .before .before .before .before .before .before .before .before .before .clean-line .ensures) in
-    λ k. looped-leaves (c .before .before .before .before .before .before .before .before .before .before .before .before .before .before .before .loop .inv) (leads-written (piece-of reply (line .ends) (reply-last _ line (sym (c .before .starts-with .ensures) ∙ c .if1 .taken))) (rw (c .before .before .before .before .before .next .given .1) at (c .before .before .before .before .before .before .before .before .before .note .ensures)) (record { is = refl; fits = tt }))
+    let asked = c .before in
+    let told = asked .before .before .before in
+    let noted = told .before .before .before .before .before in
+    let inv = loop-of (line-of noted) .loop .inv in
+    let line = line-to (line-of noted) in
+    let written = rw (told .before .next .given .1) at (noted .note .ensures) in
+    let last = sym (asked .starts-with .ensures) ∙ c .if1 .taken in
+    λ k. looped-leaves inv (leads-written (piece-of reply (line .ends) (reply-last _ line last)) written (record { is = refl; fits = tt }))
 
+-- fewer bytes are left behind it
 loop-less : tie.Need-loop-less Inv-loop μ-loop
-loop-less c =
-    let line = rw (c .before .before .before .before .before .before .before .before .before .before .before .before .end .given .1) at (c .before .before .before .before .before .before .before .before .before .before .before .before .before .before .clean-line .ensures) in
-    omega (arith, line .ends .on, line .ends .within)
+loop-less c = let line = line-to (line-of (noted-of (c .before .before .before .before))) in omega (arith, line .ends .on, line .ends .within)
 
--- it does not
+-- it does not: another line
 loop-again : tie.Need-loop-again Inv-loop μ-loop
 unfolding wants enter enters
 loop-again c =
-    let line = rw (c .before .before .before .before .before .before .before .before .before .before .before .before .end .given .1) at (c .before .before .before .before .before .before .before .before .before .before .before .before .before .before .clean-line .ensures) in
-    looped-on (c .before .before .before .before .before .before .before .before .before .before .before .before .before .before .before .loop .inv) (piece-of reply (line .ends) (reply-on _ line (sym (c .before .starts-with .ensures) ∙ c .if1 .left))) (rw (c .before .before .before .before .before .next .given .1) at (c .before .before .before .before .before .before .before .before .before .note .ensures)) refl (c .before .before .before .before .before .before .before .before .before .note .kept .0)
+    let asked = c .before in
+    let told = asked .before .before .before in
+    let noted = told .before .before .before .before .before in
+    let inv = loop-of (line-of noted) .loop .inv in
+    let line = line-to (line-of noted) in
+    let written = rw (told .before .next .given .1) at (noted .note .ensures) in
+    let other = sym (asked .starts-with .ensures) ∙ c .if1 .left in
+    looped-on inv (piece-of reply (line .ends) (reply-on _ line other)) written refl (noted .note .kept .0)
 
 pub replies-spec : {M : Type 1} → statement M
 replies-spec =
