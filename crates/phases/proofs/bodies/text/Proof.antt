@@ -1,10 +1,15 @@
 -- `phases::bodies::text` meets its contract. The loop's invariant: what is left at p is what was left. Assumes nothing.
-use mathlib.Core.Path.{refl, sym, _∙_}
+use mathlib.Core.Path.{_≡_, refl, sym, _∙_}
+use mathlib.Core.Bool.{false}
 use mathlib.Core.List.{[]}
 use Prim.Native.Nat.{_-_}
 use native.Mathlib.Omega.{arith}
 use lib.ListN.{length}
-use mathlib.Core.List.{[]}
+use Rattle.fields.specs.Common.{part}
+use Rattle.reading.specs.Bytes.{same}
+use Rattle.reading.specs.Reading.{aLine}
+use Rattle.reads.specs.Contracts.{Ends}
+use Rattle.rules.specs.Mail.{dotLine}
 use Rattle.rules.specs.Phases.{reads, wants}
 use Rattle.rules.specs.Phases as phase
 use Rattle.windows.specs.Stands.{fresh, enter, enters}
@@ -22,79 +27,133 @@ Inv-loop w base at mail encoding table₀ p₀ n₀ t15 table p n = Looped w bas
 abbrev μ-loop : tie.MeasureT-loop
 μ-loop w base at mail encoding table₀ p₀ n₀ t15 table p n = length w - p
 
+-- ---- the loop
+abbrev start : tie.At-loop Inv-loop μ-loop → tie.Start Inv-loop μ-loop
+start c = c .before .before .before
+
+-- nothing is read yet
 loop-holds : tie.Need-loop-holds Inv-loop μ-loop
 loop-holds c = not-yet (c .before .before .pre .1)
 
+-- p lies in the window
 line-requires : tie.Need-line-requires Inv-loop μ-loop
 line-requires c κs = c .loop .inv .came .within
 
--- no line yet
+-- no line is finished: the window is over
 returns : tie.Need-returns Inv-loop μ-loop
 unfolding wants stateOf Fits
-returns c = λ k. looped-goes (c .before .before .before .loop .inv) (waits-whole (is.Text _ _) (phase.text _ _) refl (rw (c .enum-told .given .1) at (c .before .before .line .ensures)) (c .before .before .before .loop .inv .came .within) tt)
+returns c =
+    let called = c .before .before in
+    let inv = called .before .loop .inv in
+    λ k. looped-goes inv (waits-whole (is.Text _ _) (phase.text _ _) refl (rw (c .enum-told .given .1) at (called .line .ensures)) (inv .came .within) tt)
 
+-- ---- a line that ends at e
+abbrev loop-of : tie.After-e Inv-loop μ-loop → tie.At-loop Inv-loop μ-loop
+loop-of c = c .before .before .before
+
+read : (c : tie.After-e Inv-loop μ-loop) →
+    let loop = loop-of c in
+    Ends aLine (start loop .args .w .now) (loop .loop .p) (c .e .given .0 .0)
+read c = rw (c .e .given .1) at (c .before .before .line .ensures)
+
+-- it ends behind p
 sub-equals : tie.Need-sub-equals Inv-loop μ-loop
-sub-equals c = omega (arith, (rw (c .before .e .given .1) at (c .before .before .before .line .ensures)) .on)
+sub-equals c = omega (arith, read (c .before) .on)
 
+-- so that it is a part of the window
 part-equals-start : tie.Need-part-equals-start Inv-loop μ-loop
-part-equals-start c = omega (arith, (rw (c .before .e .given .1) at (c .before .before .before .line .ensures)) .on)
+part-equals-start c = omega (arith, read (c .before) .on)
 
+-- and not behind its end
 part-equals-end : tie.Need-part-equals-end Inv-loop μ-loop
-part-equals-end c = (rw (c .before .e .given .1) at (c .before .before .before .line .ensures)) .within
+part-equals-end c = read (c .before) .within
 
+-- whether it is the dot line was asked
+abbrev line-of : tie.After-equals Inv-loop μ-loop → tie.After-e Inv-loop μ-loop
+line-of c = c .before .before .before .before
+
+-- ---- the dot line: it begins before the limit
 add-note : tie.Need-add-note Inv-loop μ-loop
-add-note c =
-    let line = rw (c .before .before .before .before .before .before .e .given .1) at (c .before .before .before .before .before .before .before .before .line .ensures) in
-    omega (arith, line .on, line .within)
+add-note c = let line = read (line-of (c .before .before)) in omega (arith, line .on, line .within)
 
+-- where it begins fits a slot of the table
 note-requires : tie.Need-note-requires Inv-loop μ-loop
-note-requires c κs =
-    let line = rw (c .before .before .before .before .before .before .e .given .1) at (c .before .before .before .before .before .before .before .before .line .ensures) in
-    (omega (arith, line .on, line .within), omega arith)
+note-requires c κs = let line = read (line-of (c .before .before)) in (omega (arith, line .on, line .within), omega arith)
 
+-- it ends before the limit
 add-after-mail : tie.Need-add-after-mail Inv-loop μ-loop
-add-after-mail c =
-    let line = rw (c .before .before .before .before .before .before .before .before .before .e .given .1) at (c .before .before .before .before .before .before .before .before .before .before .before .line .ensures) in
-    omega (arith, line .on, line .within)
+add-after-mail c = let line = read (line-of (c .before .before .before .before .before)) in omega (arith, line .on, line .within)
 
--- the dot line: the body stops, and the mail is over
+-- the body stops, and the mail is over
 returns-2 : tie.Need-returns-2 Inv-loop μ-loop
 unfolding wants stateOf
 returns-2 c =
-    let line = rw (c .before .before .before .before .before .before .before .before .before .before .before .e .given .1) at (c .before .before .before .before .before .before .before .before .before .before .before .before .before .line .ensures) in
-    λ k. rw (c .onward .ensures) (looped-turn (c .before .before .before .before .before .before .before .before .before .before .before .before .before .before .loop .inv) k _ (onwardOf (c .before .before .before .before .note .result) (c .before .after-mail .result) (c .before .before .before .before .before .before .before .before .before .before .before .e .given .0 .0)) (leads (piece-of (phase.text (c .before .before .before .before .before .before .before .before .before .before .before .before .before .before .before .before .before .args .mail) (c .before .before .before .before .before .before .before .before .before .before .before .before .before .before .before .before .before .args .encoding)) line (text-dot (c .before .before .before .before .before .before .before .before .before .before .before .before .before .before .before .before .before .args .base) (c .before .before .before .before .before .before .before .before .before .before .before .before .before .before .before .before .before .args .mail) (c .before .before .before .before .before .before .before .before .before .before .before .before .before .before .before .before .before .args .encoding) line (sym (c .before .before .before .before .before .before .before .equals .ensures) ∙ c .before .before .before .before .before .before .if1 .taken))) k (c .before .before .before .before .before .before .before .before .before .before .before .before .before .before .loop .table) (c .before .before .before .before .before .before .before .before .before .before .before .before .before .before .loop .n) (c .before .before .before .before .note .result) (c .before .before .before .before .note .last .0) (c .before .after-mail .result) (c .before .before .before .before .note .ensures) (c .before .after-mail .ensures k)))
+    let over = c .before in
+    let noted = over .before .before .before in
+    let dot = noted .before .before in
+    let e = line-of (dot .before) in
+    let loop = loop-of e in
+    let a = start loop .args in
+    let line = read e in
+    let is-dot = sym (dot .before .equals .ensures) ∙ dot .if1 .taken in
+    let r = noted .note .result in
+    let next = over .after-mail .result in
+    let piece = piece-of (phase.text (a .mail) (a .encoding)) line (text-dot (a .base) (a .mail) (a .encoding) line is-dot) in
+    λ k.
+    rw (c .onward .ensures)
+    (looped-turn (loop .loop .inv) k _ (onwardOf r next (e .e .given .0 .0))
+    (leads piece k (loop .loop .table) (loop .loop .n) r (noted .note .last .0) next (noted .note .ensures) (over .after-mail .ensures k)))
 
+-- ---- a line of the body: it begins before the limit
 add-note-2 : tie.Need-add-note-2 Inv-loop μ-loop
-add-note-2 c =
-    let line = rw (c .before .before .before .before .before .before .e .given .1) at (c .before .before .before .before .before .before .before .before .line .ensures) in
-    omega (arith, line .on, line .within)
+add-note-2 c = let line = read (line-of (c .before .before)) in omega (arith, line .on, line .within)
 
+-- it ends behind p
 sub-note : tie.Need-sub-note Inv-loop μ-loop
-sub-note c = omega (arith, (rw (c .before .before .before .before .before .before .e .given .1) at (c .before .before .before .before .before .before .before .before .line .ensures)) .on)
+sub-note c = omega (arith, read (line-of (c .before .before)) .on)
 
+-- where it begins and how long it is fit a slot of the table
 note-requires-2 : tie.Need-note-requires-2 Inv-loop μ-loop
-note-requires-2 c κs =
-    let line = rw (c .before .before .before .before .before .before .e .given .1) at (c .before .before .before .before .before .before .before .before .line .ensures) in
-    (omega (arith, line .on, line .within), omega (arith, line .within))
+note-requires-2 c κs = let line = read (line-of (c .before .before)) in (omega (arith, line .on, line .within), omega (arith, line .within))
+
+-- it is no dot line
+no-dot : (c : tie.Else1 Inv-loop μ-loop) →
+    let e = line-of (c .before) in
+    let loop = loop-of e in
+    same dotLine (part (start loop .args .w .now) (loop .loop .p) (e .e .given .0 .0)) ≡ false
+no-dot c = sym (c .before .equals .ensures) ∙ c .if1 .left
 
 -- the table is full
 returns-3 : tie.Need-returns-3 Inv-loop μ-loop
 unfolding wants stateOf
 returns-3 c =
-    let line = rw (c .before .before .before .before .before .before .before .before .before .before .before .before .before .e .given .1) at (c .before .before .before .before .before .before .before .before .before .before .before .before .before .before .before .line .ensures) in
-    λ k. rw (c .over .ensures) (looped-leaves (c .before .before .before .before .before .before .before .before .before .before .before .before .before .before .before .before .loop .inv) (leads-full (piece-of (phase.text _ _) line (text-line _ _ _ line (sym (c .before .before .before .before .before .before .before .before .before .equals .ensures) ∙ c .before .before .before .before .before .before .before .before .if1 .left))) [] refl (rw (c .before .before .a .given .1) at (c .before .before .before .before .before .before .note2 .ensures))))
+    let stopped = c .before .before in
+    let noted = stopped .before .before .before .before in
+    let other = noted .before .before in
+    let line = read (line-of (other .before)) in
+    let unwritten = rw (stopped .a .given .1) at (noted .note2 .ensures) in
+    λ k.
+    rw (c .over .ensures)
+    (looped-leaves (loop-of (line-of (other .before)) .loop .inv)
+    (leads-full (piece-of (phase.text _ _) line (text-line _ _ _ line (no-dot other))) [] refl unwritten))
 
+-- it is listed: fewer bytes are left behind it
 loop-less : tie.Need-loop-less Inv-loop μ-loop
 loop-less c =
-    let line = rw (c .before .before .before .before .before .before .before .before .before .before .before .before .e .given .1) at (c .before .before .before .before .before .before .before .before .before .before .before .before .before .before .line .ensures) in
+    let noted = c .before .before .before .before .before in
+    let line = read (line-of (noted .before .before .before)) in
     omega (arith, line .on, line .within)
 
--- a line of the body
+-- another line
 loop-again : tie.Need-loop-again Inv-loop μ-loop
 unfolding wants enter enters
 loop-again c =
-    let line = rw (c .before .before .before .before .before .before .before .before .before .before .before .before .e .given .1) at (c .before .before .before .before .before .before .before .before .before .before .before .before .before .before .line .ensures) in
-    looped-on (c .before .before .before .before .before .before .before .before .before .before .before .before .before .before .before .loop .inv) (piece-of (phase.text _ _) line (text-line _ _ _ line (sym (c .before .before .before .before .before .before .before .before .equals .ensures) ∙ c .before .before .before .before .before .before .before .if1 .left))) (rw (c .before .next .given .1) at (c .before .before .before .before .before .note2 .ensures)) refl (c .before .before .before .before .before .note2 .kept .0)
+    let noted = c .before .before .before .before .before in
+    let other = noted .before .before in
+    let line = read (line-of (other .before)) in
+    let written = rw (c .before .next .given .1) at (noted .note2 .ensures) in
+    looped-on (loop-of (line-of (other .before)) .loop .inv)
+    (piece-of (phase.text _ _) line (text-line _ _ _ line (no-dot other))) written refl (noted .note2 .kept .0)
 
 pub text-spec : {M : Type 1} → statement M
 text-spec =

@@ -1,6 +1,8 @@
 -- `phases::envelope::hello` meets its contract. Assumes nothing.
 use mathlib.Core.Path.{refl, sym, _∙_}
 use native.Mathlib.Omega.{arith}
+use Rattle.reading.specs.Reading.{aLine}
+use Rattle.reads.specs.Contracts.{Ends}
 use Rattle.rules.specs.Phases.{hello, wants}
 use Rattle.windows.specs.Stands.{enter, enters}
 use Rattle.phases.specs.Phasing.{stateOf, Fits}
@@ -11,30 +13,49 @@ use borrow.Author.Needs.{needs}
 use Rattle.phases.proofs.envelope.hello.Statement.{statement}
 use Rattle.phases.proofs.envelope.hello.Tie as tie
 
+-- ---- a line that ends at e
+read : (c : tie.After-e) →
+    let a = c .before .before .before .before .args in
+    Ends aLine (a .w .now) (a .p) (c .e .given .0 .0)
+read c = rw (c .e .given .1) at (c .before .before .line .ensures)
+
+-- it ends behind p
 sub-starts-with-helo : tie.Need-sub-starts-with-helo
-unfolding wants
-sub-starts-with-helo c = omega (arith, (rw (c .before .e .given .1) at (c .before .before .before .line .ensures)) .on)
+sub-starts-with-helo c = omega (arith, read (c .before) .on)
 
+-- so that it is a part of the window
 part-starts-with-helo-start : tie.Need-part-starts-with-helo-start
-part-starts-with-helo-start c = omega (arith, (rw (c .before .e .given .1) at (c .before .before .before .line .ensures)) .on)
+part-starts-with-helo-start c = omega (arith, read (c .before) .on)
 
+-- and not behind its end
 part-starts-with-helo-end : tie.Need-part-starts-with-helo-end
-part-starts-with-helo-end c = (rw (c .before .e .given .1) at (c .before .before .before .line .ensures)) .within
+part-starts-with-helo-end c = read (c .before) .within
 
--- HELO or EHLO
+-- HELO or EHLO: a second line follows
 returns : tie.Need-returns
 unfolding wants stateOf enter enters Fits
-returns c = λ k t. leads-still (piece-of hello (rw (c .before .before .before .before .e .given .1) at (c .before .before .before .before .before .before .line .ensures)) (hello-yes _ _ (sym (c .before .starts-with-helo .ensures) ∙ c .if1 .taken))) refl (record { is = refl; fits = tt })
+returns c =
+    let asked = c .before in
+    let line = read (asked .before .before .before) in
+    let helo = sym (asked .starts-with-helo .ensures) ∙ c .if1 .taken in
+    λ k t. leads-still (piece-of hello line (hello-yes _ _ helo)) refl (record { is = refl; fits = tt })
 
--- no line yet
+-- ---- no line is finished: the window is over
 returns-2 : tie.Need-returns-2
 unfolding wants stateOf Fits
-returns-2 c = λ k t. waits-whole is.Hello hello refl (rw (c .enum-told .given .1) at (c .before .before .line .ensures)) (c .before .before .before .before .pre .1) tt
+returns-2 c =
+    let called = c .before .before in
+    let pre = called .before .before .pre in
+    λ k t. waits-whole is.Hello hello refl (rw (c .enum-told .given .1) at (called .line .ensures)) (pre .1) tt
 
--- neither
+-- ---- neither HELO nor EHLO: the session is over
 returns-3 : tie.Need-returns-3
 unfolding wants stateOf enter enters Fits
-returns-3 c = λ k t. leads-still (piece-of hello (rw (c .before .before .before .before .e .given .1) at (c .before .before .before .before .before .before .line .ensures)) (hello-not _ _ (sym (c .before .starts-with-helo .ensures) ∙ c .if1 .left))) refl (record { is = refl; fits = tt })
+returns-3 c =
+    let asked = c .before in
+    let line = read (asked .before .before .before) in
+    let other = sym (asked .starts-with-helo .ensures) ∙ c .if1 .left in
+    λ k t. leads-still (piece-of hello line (hello-not _ _ other)) refl (record { is = refl; fits = tt })
 
 pub hello-spec : {M : Type 1} → statement M
 hello-spec =

@@ -1,6 +1,7 @@
 -- `phases::envelope::password` meets its contract. Assumes nothing.
 use mathlib.Core.Path.{refl}
 use native.Mathlib.Omega.{arith}
+use Rattle.reads.specs.Contracts.{Cleaned}
 use Rattle.rules.specs.Phases.{password, wants}
 use Rattle.windows.specs.Stands.{enter, enters}
 use Rattle.phases.specs.Phasing.{stateOf, Fits}
@@ -11,25 +12,43 @@ use borrow.Author.Needs.{needs}
 use Rattle.phases.proofs.envelope.password.Statement.{statement}
 use Rattle.phases.proofs.envelope.password.Tie as tie
 
-sub-note : tie.Need-sub-note
-sub-note c = (rw (c .before .before .end .given .1) at (c .before .before .before .before .clean-line .ensures)) .from
+-- ---- a line that ends at e, its clean part at `end`
+abbrev start : tie.After-end → tie.Start
+start c = c .before .before .before .before .before
 
+line-to : (c : tie.After-end) →
+    let a = start c .args in
+    Cleaned (a .w .now) (a .p) (c .end .given .0 .0) (c .end .given .0 .1 .0)
+line-to c = rw (c .end .given .1) at (c .before .before .clean-line .ensures)
+
+-- its clean part ends behind p
+sub-note : tie.Need-sub-note
+sub-note c = line-to (c .before .before) .from
+
+-- where it begins and how long it is fit a slot of the table
 note-requires : tie.Need-note-requires
 note-requires c κs =
-    let line = rw (c .before .before .end .given .1) at (c .before .before .before .before .clean-line .ensures) in
+    let line = line-to (c .before .before) in
     (omega (arith, line .ends .on, line .ends .within), omega (arith, line .within, line .ends .within))
 
--- no line yet
+-- ---- no line is finished: the window is over
 returns : tie.Need-returns
 unfolding wants stateOf enter enters Fits
-returns c = λ k. waits-whole is.Password password refl (rw (c .enum-told .given .1) at (c .before .before .clean-line .ensures)) (c .before .before .before .before .before .pre .1) tt
+returns c =
+    let called = c .before .before in
+    let pre = called .before .before .before .pre in
+    λ k. waits-whole is.Password password refl (rw (c .enum-told .given .1) at (called .clean-line .ensures)) (pre .1) tt
 
--- the line is listed, or the table is full
+-- ---- the line is listed, or the table is full
 returns-2 : tie.Need-returns-2
 unfolding wants stateOf enter enters Fits
 returns-2 c =
-    let line = rw (c .before .before .before .before .before .before .end .given .1) at (c .before .before .before .before .before .before .before .before .clean-line .ensures) in
-    λ k. rw (c .onward .ensures) (leads (piece-of password (line .ends) (password-by _ line)) k _ _ (c .before .before .before .note .result) (c .before .before .before .note .last .0) is.Sender (c .before .before .before .note .ensures) (record { is = refl; fits = tt }))
+    let noted = c .before .before .before in
+    let line = line-to (noted .before .before .before) in
+    let r = noted .note .result in
+    λ k.
+    rw (c .onward .ensures)
+    (leads (piece-of password (line .ends) (password-by _ line)) k _ _ r (noted .note .last .0) is.Sender (noted .note .ensures) (record { is = refl; fits = tt }))
 
 pub password-spec : {M : Type 1} → statement M
 password-spec =

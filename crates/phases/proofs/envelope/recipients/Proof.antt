@@ -1,11 +1,15 @@
 -- `phases::envelope::recipients` meets its contract. The loop's invariant: what is left at p is what was left. Assumes nothing.
-use mathlib.Core.Path.{refl, sym, _∙_}
+use mathlib.Core.Path.{_≡_, refl, sym, _∙_}
+use mathlib.Core.Bool.{false}
 use mathlib.Core.List.{[]}
-use Prim.Native.Nat.{_-_}
+use Prim.Native.Nat.{_+_, _-_, _≤_}
 use native.Mathlib.Omega.{arith}
 use lib.ListN.{length}
+use Rattle.fields.specs.Common.{part}
+use Rattle.fields.specs.Smtp.{isData}
 use Rattle.reads.proofs.Addresses.{to-room}
 use Rattle.reads.proofs.Laws.{begun-smtp}
+use Rattle.reads.specs.Contracts.{Cleaned}
 use Rattle.rules.specs.Phases.{reads, recipient, wants}
 use Rattle.windows.specs.Stands.{fresh, enter, enters}
 use Rattle.phases.specs.Phasing.{stateOf, Fits}
@@ -22,94 +26,161 @@ Inv-loop w base at table₀ p₀ n₀ table p n = Looped w base at table₀ n₀
 abbrev μ-loop : tie.MeasureT-loop
 μ-loop w base at table₀ p₀ n₀ table p n = length w - p
 
+-- ---- the loop
+abbrev start : tie.At-loop Inv-loop μ-loop → tie.Start Inv-loop μ-loop
+start c = c .before .before .before
+
+-- nothing is read yet
 loop-holds : tie.Need-loop-holds Inv-loop μ-loop
 loop-holds c = not-yet (c .before .before .pre .1)
 
+-- p lies in the window
 clean-line-requires : tie.Need-clean-line-requires Inv-loop μ-loop
 clean-line-requires c κs = c .loop .inv .came .within
 
--- no line yet
+-- no line is finished: the window is over
 returns : tie.Need-returns Inv-loop μ-loop
 unfolding wants stateOf Fits
-returns c = λ k. looped-goes (c .before .before .before .loop .inv) (waits-whole is.Recipient recipient refl (rw (c .enum-told .given .1) at (c .before .before .clean-line .ensures)) (c .before .before .before .loop .inv .came .within) tt)
+returns c =
+    let called = c .before .before in
+    let inv = called .before .loop .inv in
+    λ k. looped-goes inv (waits-whole is.Recipient recipient refl (rw (c .enum-told .given .1) at (called .clean-line .ensures)) (inv .came .within) tt)
 
+-- ---- a line that ends at e, its clean part at `end`
+abbrev loop-of : tie.After-end Inv-loop μ-loop → tie.At-loop Inv-loop μ-loop
+loop-of c = c .before .before .before
+
+line-to : (c : tie.After-end Inv-loop μ-loop) →
+    let loop = loop-of c in
+    Cleaned (start loop .args .w .now) (loop .loop .p) (c .end .given .0 .0) (c .end .given .0 .1 .0)
+line-to c = rw (c .end .given .1) at (c .before .before .clean-line .ensures)
+
+-- it ends behind p
 sub-is-data : tie.Need-sub-is-data Inv-loop μ-loop
-sub-is-data c = (rw (c .before .end .given .1) at (c .before .before .before .clean-line .ensures)) .from
+sub-is-data c = line-to (c .before) .from
 
+-- so that it is a part of the window
 part-is-data-start : tie.Need-part-is-data-start Inv-loop μ-loop
-part-is-data-start c = (rw (c .before .end .given .1) at (c .before .before .before .clean-line .ensures)) .from
+part-is-data-start c = line-to (c .before) .from
 
+-- and not behind its end
 part-is-data-end : tie.Need-part-is-data-end Inv-loop μ-loop
-part-is-data-end c =
-    let line = rw (c .before .end .given .1) at (c .before .before .before .clean-line .ensures) in
-    omega (arith, line .within, line .ends .within)
+part-is-data-end c = let line = line-to (c .before) in omega (arith, line .within, line .ends .within)
 
 -- DATA: a mail follows
 returns-2 : tie.Need-returns-2 Inv-loop μ-loop
 unfolding wants stateOf
 returns-2 c =
-    let line = rw (c .before .before .before .before .before .end .given .1) at (c .before .before .before .before .before .before .before .clean-line .ensures) in
-    λ k. looped-leaves (c .before .before .before .before .before .before .before .before .loop .inv) (leads-still (piece-of recipient (line .ends) (recipient-data _ line (sym (c .before .before .is-data .ensures) ∙ c .before .if1 .taken))) refl (first-head k _ begun-smtp (c .unheard .ensures)))
+    let found = c .before in
+    let end = found .before .before .before .before in
+    let line = line-to end in
+    let is-data = sym (found .before .is-data .ensures) ∙ found .if1 .taken in
+    λ k.
+    looped-leaves (loop-of end .loop .inv)
+    (leads-still (piece-of recipient (line .ends) (recipient-data _ line is-data)) refl (first-head k _ begun-smtp (c .unheard .ensures)))
 
+-- ---- not DATA: a recipient is read
+abbrev end-of : tie.Else1 Inv-loop μ-loop → tie.After-end Inv-loop μ-loop
+end-of c = c .before .before .before .before
+
+no-data : (c : tie.Else1 Inv-loop μ-loop) →
+    let loop = loop-of (end-of c) in
+    isData (part (start loop .args .w .now) (loop .loop .p) (end-of c .end .given .0 .0)) ≡ false
+no-data c = sym (c .before .is-data .ensures) ∙ c .if1 .left
+
+-- it ends behind p
 sub-rcpt-to : tie.Need-sub-rcpt-to Inv-loop μ-loop
-sub-rcpt-to c = (rw (c .before .before .before .before .end .given .1) at (c .before .before .before .before .before .before .clean-line .ensures)) .from
+sub-rcpt-to c = line-to (end-of c) .from
 
+-- so that it is a part of the window
 part-rcpt-to-start : tie.Need-part-rcpt-to-start Inv-loop μ-loop
-part-rcpt-to-start c = (rw (c .before .before .before .before .end .given .1) at (c .before .before .before .before .before .before .clean-line .ensures)) .from
+part-rcpt-to-start c = line-to (end-of c) .from
 
+-- and not behind its end
 part-rcpt-to-end : tie.Need-part-rcpt-to-end Inv-loop μ-loop
-part-rcpt-to-end c =
-    let line = rw (c .before .before .before .before .end .given .1) at (c .before .before .before .before .before .before .clean-line .ensures) in
-    omega (arith, line .within, line .ends .within)
+part-rcpt-to-end c = let line = line-to (end-of c) in omega (arith, line .within, line .ends .within)
 
+-- ---- none is given: the line begins before the limit
 add-t32 : tie.Need-add-t32 Inv-loop μ-loop
-add-t32 c =
-    let line = rw (c .before .before .before .before .before .before .before .before .end .given .1) at (c .before .before .before .before .before .before .before .before .before .before .clean-line .ensures) in
-    omega (arith, line .ends .on, line .ends .within)
+add-t32 c = let line = line-to (end-of (c .before .before .before .before)) in omega (arith, line .ends .on, line .ends .within)
 
--- no recipient
+-- and the session is over
 returns-3 : tie.Need-returns-3 Inv-loop μ-loop
 unfolding wants stateOf enter enters Fits
 returns-3 c =
-    let line = rw (c .before .before .before .before .before .before .before .before .end .given .1) at (c .before .before .before .before .before .before .before .before .before .before .clean-line .ensures) in
-    λ k. looped-leaves (c .before .before .before .before .before .before .before .before .before .before .before .loop .inv) (leads-still (piece-of recipient (line .ends) (recipient-none _ line (sym (c .before .before .before .before .before .is-data .ensures) ∙ c .before .before .before .before .if1 .left) (sym (c .enum-told2 .given .1) ∙ c .before .before .rcpt-to .ensures))) refl (record { is = refl; fits = tt }))
+    let asked = c .before .before in
+    let other = asked .before .before in
+    let line = line-to (end-of other) in
+    let none = sym (c .enum-told2 .given .1) ∙ asked .rcpt-to .ensures in
+    λ k.
+    looped-leaves (loop-of (end-of other) .loop .inv)
+    (leads-still (piece-of recipient (line .ends) (recipient-none _ line (no-data other) none)) refl (record { is = refl; fits = tt }))
 
+-- ---- one is given, o bytes behind p and m long
+abbrev other-of : tie.After-note-arg Inv-loop μ-loop → tie.Else1 Inv-loop μ-loop
+other-of c = c .before .before .before .before .before .before
+
+-- it lies in the line
+given-room : (c : tie.After-note-arg Inv-loop μ-loop) →
+    let given = c .before .before in
+    let end = end-of (other-of c) in
+    given .o .given .0 .0 + given .o .given .0 .1 .0 ≤ end .end .given .0 .0 - loop-of end .loop .p
+given-room c =
+    let given = c .before .before in
+    let end = end-of (other-of c) in
+    let loop = loop-of end in
+    to-room (start loop .args .w .now) (loop .loop .p) (end .end .given .0 .0) (sym (given .before .before .rcpt-to .ensures) ∙ given .o .given .1)
+
+-- the line begins before the limit
 add-note : tie.Need-add-note Inv-loop μ-loop
-add-note c =
-    let line = rw (c .before .before .before .before .before .before .before .before .before .before .end .given .1) at (c .before .before .before .before .before .before .before .before .before .before .before .before .clean-line .ensures) in
-    let fits = to-room (c .before .before .before .before .before .before .before .before .before .before .before .before .before .before .before .before .args .w .now) (c .before .before .before .before .before .before .before .before .before .before .before .before .before .loop .p) (c .before .before .before .before .before .before .before .before .before .before .end .given .0 .0) (sym (c .before .before .before .before .rcpt-to .ensures) ∙ c .before .before .o .given .1) in
-    omega (arith, line .from, line .within, line .ends .within)
+add-note c = let line = line-to (end-of (other-of c)) in omega (arith, given-room c, line .from, line .within, line .ends .within)
 
+-- and so does the address
 add-note-2 : tie.Need-add-note-2 Inv-loop μ-loop
-add-note-2 c =
-    let line = rw (c .before .before .before .before .before .before .before .before .before .before .end .given .1) at (c .before .before .before .before .before .before .before .before .before .before .before .before .clean-line .ensures) in
-    let fits = to-room (c .before .before .before .before .before .before .before .before .before .before .before .before .before .before .before .before .args .w .now) (c .before .before .before .before .before .before .before .before .before .before .before .before .before .loop .p) (c .before .before .before .before .before .before .before .before .before .before .end .given .0 .0) (sym (c .before .before .before .before .rcpt-to .ensures) ∙ c .before .before .o .given .1) in
-    omega (arith, line .from, line .within, line .ends .within)
+add-note-2 c = let line = line-to (end-of (other-of c)) in omega (arith, given-room c, line .from, line .within, line .ends .within)
 
+-- where it begins and how long it is fit a slot of the table
 note-requires : tie.Need-note-requires Inv-loop μ-loop
 note-requires c κs =
-    let line = rw (c .before .before .before .before .before .before .before .before .before .before .end .given .1) at (c .before .before .before .before .before .before .before .before .before .before .before .before .clean-line .ensures) in
-    let fits = to-room (c .before .before .before .before .before .before .before .before .before .before .before .before .before .before .before .before .args .w .now) (c .before .before .before .before .before .before .before .before .before .before .before .before .before .loop .p) (c .before .before .before .before .before .before .before .before .before .before .end .given .0 .0) (sym (c .before .before .before .before .rcpt-to .ensures) ∙ c .before .before .o .given .1) in
-    (omega (arith, line .from, line .within, line .ends .within), omega (arith, line .from, line .within, line .ends .within))
+    let line = line-to (end-of (other-of c)) in
+    let room = given-room c in
+    (omega (arith, room, line .from, line .within, line .ends .within), omega (arith, room, line .from, line .within, line .ends .within))
 
 -- the table is full
 returns-4 : tie.Need-returns-4 Inv-loop μ-loop
 unfolding wants stateOf
 returns-4 c =
-    let line = rw (c .before .before .before .before .before .before .before .before .before .before .before .before .before .before .before .before .before .end .given .1) at (c .before .before .before .before .before .before .before .before .before .before .before .before .before .before .before .before .before .before .before .clean-line .ensures) in
-    λ k. rw (c .over .ensures) (looped-leaves (c .before .before .before .before .before .before .before .before .before .before .before .before .before .before .before .before .before .before .before .before .loop .inv) (leads-full (piece-of recipient (line .ends) (recipient-given _ line (sym (c .before .before .before .before .before .before .before .before .before .before .before .before .before .before .is-data .ensures) ∙ c .before .before .before .before .before .before .before .before .before .before .before .before .before .if1 .left) (sym (c .before .before .before .before .before .before .before .before .before .o .given .1) ∙ c .before .before .before .before .before .before .before .before .before .before .before .rcpt-to .ensures))) [] refl (rw (c .before .before .a .given .1) at (c .before .before .before .before .before .before .note .ensures))))
+    let stopped = c .before .before in
+    let noted = stopped .before .before .before .before in
+    let given = noted .before .before .before in
+    let other = other-of (noted .before) in
+    let line = line-to (end-of other) in
+    let address = sym (given .o .given .1) ∙ given .before .before .rcpt-to .ensures in
+    let unwritten = rw (stopped .a .given .1) at (noted .note .ensures) in
+    λ k.
+    rw (c .over .ensures)
+    (looped-leaves (loop-of (end-of other) .loop .inv)
+    (leads-full (piece-of recipient (line .ends) (recipient-given _ line (no-data other) address)) [] refl unwritten))
 
+-- it is listed: fewer bytes are left behind the line
 loop-less : tie.Need-loop-less Inv-loop μ-loop
 loop-less c =
-    let line = rw (c .before .before .before .before .before .before .before .before .before .before .before .before .before .before .before .before .end .given .1) at (c .before .before .before .before .before .before .before .before .before .before .before .before .before .before .before .before .before .before .clean-line .ensures) in
+    let noted = c .before .before .before .before .before in
+    let line = line-to (end-of (other-of (noted .before))) in
     omega (arith, line .ends .on, line .ends .within)
 
--- it is listed
+-- another line
 loop-again : tie.Need-loop-again Inv-loop μ-loop
 unfolding wants enter enters
 loop-again c =
-    let line = rw (c .before .before .before .before .before .before .before .before .before .before .before .before .before .before .before .before .end .given .1) at (c .before .before .before .before .before .before .before .before .before .before .before .before .before .before .before .before .before .before .clean-line .ensures) in
-    looped-on (c .before .before .before .before .before .before .before .before .before .before .before .before .before .before .before .before .before .before .before .loop .inv) (piece-of recipient (line .ends) (recipient-given _ line (sym (c .before .before .before .before .before .before .before .before .before .before .before .before .before .is-data .ensures) ∙ c .before .before .before .before .before .before .before .before .before .before .before .before .if1 .left) (sym (c .before .before .before .before .before .before .before .before .o .given .1) ∙ c .before .before .before .before .before .before .before .before .before .before .rcpt-to .ensures))) (rw (c .before .next .given .1) at (c .before .before .before .before .before .note .ensures)) refl (c .before .before .before .before .before .note .kept .0)
+    let noted = c .before .before .before .before .before in
+    let given = noted .before .before .before in
+    let other = other-of (noted .before) in
+    let line = line-to (end-of other) in
+    let address = sym (given .o .given .1) ∙ given .before .before .rcpt-to .ensures in
+    let written = rw (c .before .next .given .1) at (noted .note .ensures) in
+    looped-on (loop-of (end-of other) .loop .inv)
+    (piece-of recipient (line .ends) (recipient-given _ line (no-data other) address)) written refl (noted .note .kept .0)
 
 pub recipients-spec : {M : Type 1} → statement M
 recipients-spec =

@@ -1,6 +1,7 @@
 -- `phases::envelope::second` meets its contract, by what the line is. Assumes nothing.
 use mathlib.Core.Path.{refl, sym, _∙_}
 use native.Mathlib.Omega.{arith}
+use Rattle.reads.specs.Contracts.{Cleaned}
 use Rattle.rules.specs.Phases.{second, wants}
 use Rattle.rules.specs.Smtp.{bySecond}
 use Rattle.windows.specs.Stands.{enter, enters}
@@ -12,59 +13,87 @@ use borrow.Author.Needs.{needs}
 use Rattle.phases.proofs.envelope.second.Statement.{statement}
 use Rattle.phases.proofs.envelope.second.Tie as tie
 
+-- ---- a line that ends at e, its clean part at `end`
+abbrev start : tie.After-end → tie.Start
+start c = c .before .before .before .before .before
+
+line-to : (c : tie.After-end) →
+    let a = start c .args in
+    Cleaned (a .w .now) (a .p) (c .end .given .0 .0) (c .end .given .0 .1 .0)
+line-to c = rw (c .end .given .1) at (c .before .before .clean-line .ensures)
+
+-- it ends behind p
 sub-second-line : tie.Need-sub-second-line
-sub-second-line c = (rw (c .before .end .given .1) at (c .before .before .before .clean-line .ensures)) .from
+sub-second-line c = line-to (c .before) .from
 
+-- so that it is a part of the window
 part-second-line-start : tie.Need-part-second-line-start
-part-second-line-start c = (rw (c .before .end .given .1) at (c .before .before .before .clean-line .ensures)) .from
+part-second-line-start c = line-to (c .before) .from
 
+-- and not behind its end
 part-second-line-end : tie.Need-part-second-line-end
-part-second-line-end c =
-    let line = rw (c .before .end .given .1) at (c .before .before .before .clean-line .ensures) in
-    omega (arith, line .within, line .ends .within)
+part-second-line-end c = let line = line-to (c .before) in omega (arith, line .within, line .ends .within)
 
+-- what it is was asked
+abbrev end-of : tie.After-second-line → tie.After-end
+end-of c = c .before .before .before
+
+-- STARTTLS: it begins before the limit
 add-t19 : tie.Need-add-t19
-add-t19 c =
-    let line = rw (c .before .before .before .before .before .end .given .1) at (c .before .before .before .before .before .before .before .clean-line .ensures) in
-    omega (arith, line .ends .on, line .ends .within)
+add-t19 c = let line = line-to (end-of (c .before .before)) in omega (arith, line .ends .on, line .ends .within)
 
+-- MAIL FROM: its ends are in order
 tried-requires : tie.Need-tried-requires
 tried-requires c κs =
-    let line = rw (c .before .before .before .before .before .before .end .given .1) at (c .before .before .before .before .before .before .before .before .clean-line .ensures) in
-    (c .before .before .before .before .before .before .before .before .before .before .before .pre .0, line .from, line .within, line .ends .within)
+    let end = end-of (c .before .before .before) in
+    let line = line-to end in
+    (start end .pre .0, line .from, line .within, line .ends .within)
 
--- no line yet
+-- ---- no line is finished: the window is over
 returns : tie.Need-returns
 unfolding wants stateOf Fits
-returns c = λ k. waits-whole is.Second second refl (rw (c .enum-told .given .1) at (c .before .before .clean-line .ensures)) (c .before .before .before .before .before .pre .1) tt
+returns c =
+    let called = c .before .before in
+    let pre = called .before .before .before .pre in
+    λ k. waits-whole is.Second second refl (rw (c .enum-told .given .1) at (called .clean-line .ensures)) (pre .1) tt
 
--- STARTTLS
+-- ---- STARTTLS: the session is over
 returns-2 : tie.Need-returns-2
 unfolding wants stateOf enter enters Fits bySecond
 returns-2 c =
-    let line = rw (c .before .before .before .before .before .end .given .1) at (c .before .before .before .before .before .before .before .clean-line .ensures) in
-    λ k. leads-still (piece-of second (line .ends) (second-by _ line (sym (c .enum-told2 .given .1) ∙ c .before .before .second-line .ensures))) refl (record { is = refl; fits = tt })
+    let asked = c .before .before in
+    let line = line-to (end-of asked) in
+    let which = sym (c .enum-told2 .given .1) ∙ asked .second-line .ensures in
+    λ k. leads-still (piece-of second (line .ends) (second-by _ line which)) refl (record { is = refl; fits = tt })
 
--- AUTH LOGIN
+-- AUTH LOGIN: a user follows
 returns-3 : tie.Need-returns-3
 unfolding wants stateOf enter enters Fits bySecond
 returns-3 c =
-    let line = rw (c .before .before .before .before .before .end .given .1) at (c .before .before .before .before .before .before .before .clean-line .ensures) in
-    λ k. leads-still (piece-of second (line .ends) (second-by _ line (sym (c .enum-told3 .given .1) ∙ c .before .before .second-line .ensures))) refl (record { is = refl; fits = tt })
+    let asked = c .before .before in
+    let line = line-to (end-of asked) in
+    let which = sym (c .enum-told3 .given .1) ∙ asked .second-line .ensures in
+    λ k. leads-still (piece-of second (line .ends) (second-by _ line which)) refl (record { is = refl; fits = tt })
 
--- MAIL FROM:
+-- MAIL FROM: it is tried
 returns-4 : tie.Need-returns-4
 unfolding wants stateOf bySecond
 returns-4 c =
-    let line = rw (c .before .before .before .before .before .before .before .before .before .end .given .1) at (c .before .before .before .before .before .before .before .before .before .before .before .clean-line .ensures) in
-    λ k. c .before .before .tried .ensures k _ (piece-of second (line .ends) (second-by _ line (sym (c .before .before .before .before .enum-told4 .given .1) ∙ c .before .before .before .before .before .before .second-line .ensures)))
+    let called = c .before .before in
+    let told = called .before .before in
+    let asked = told .before .before in
+    let line = line-to (end-of asked) in
+    let which = sym (told .enum-told4 .given .1) ∙ asked .second-line .ensures in
+    λ k. called .tried .ensures k _ (piece-of second (line .ends) (second-by _ line which))
 
--- anything else
+-- anything else: lines up to a sender follow
 returns-5 : tie.Need-returns-5
 unfolding wants stateOf enter enters Fits bySecond
 returns-5 c =
-    let line = rw (c .before .before .before .before .before .end .given .1) at (c .before .before .before .before .before .before .before .clean-line .ensures) in
-    λ k. leads-still (piece-of second (line .ends) (second-by _ line (sym (c .enum-told5 .given .1) ∙ c .before .before .second-line .ensures))) refl (record { is = refl; fits = tt })
+    let asked = c .before .before in
+    let line = line-to (end-of asked) in
+    let which = sym (c .enum-told5 .given .1) ∙ asked .second-line .ensures in
+    λ k. leads-still (piece-of second (line .ends) (second-by _ line which)) refl (record { is = refl; fits = tt })
 
 pub second-spec : {M : Type 1} → statement M
 second-spec =

@@ -3,6 +3,7 @@ use mathlib.Core.Path.{refl, sym, _∙_}
 use Prim.Native.Nat.{_-_}
 use native.Mathlib.Omega.{arith}
 use lib.ListN.{length}
+use Rattle.reads.specs.Contracts.{Cleaned}
 use Rattle.rules.specs.Phases.{reads, seeking, wants}
 use Rattle.windows.specs.Stands.{fresh, enter, enters}
 use Rattle.phases.specs.Phasing.{stateOf, Fits}
@@ -19,51 +20,83 @@ Inv-loop w base at table₀ log p₀ table p = Looped w base at table₀ log (fr
 abbrev μ-loop : tie.MeasureT-loop
 μ-loop w base at table₀ log p₀ table p = length w - p
 
+-- ---- the loop
+abbrev start : tie.At-loop Inv-loop μ-loop → tie.Start Inv-loop μ-loop
+start c = c .before .before .before
+
+-- nothing is read yet
 loop-holds : tie.Need-loop-holds Inv-loop μ-loop
 loop-holds c = not-yet (c .before .before .pre .1)
 
+-- p lies in the window
 clean-line-requires : tie.Need-clean-line-requires Inv-loop μ-loop
 clean-line-requires c κs = c .loop .inv .came .within
 
--- no line yet
+-- no line is finished: the window is over
 returns : tie.Need-returns Inv-loop μ-loop
 unfolding wants stateOf Fits
-returns c = λ k. looped-goes (c .before .before .before .loop .inv) (waits-whole is.Seeking seeking refl (rw (c .enum-told .given .1) at (c .before .before .clean-line .ensures)) (c .before .before .before .loop .inv .came .within) tt)
+returns c =
+    let called = c .before .before in
+    let inv = called .before .loop .inv in
+    λ k. looped-goes inv (waits-whole is.Seeking seeking refl (rw (c .enum-told .given .1) at (called .clean-line .ensures)) (inv .came .within) tt)
 
+-- ---- a line that ends at e, its clean part at `end`
+abbrev loop-of : tie.After-end Inv-loop μ-loop → tie.At-loop Inv-loop μ-loop
+loop-of c = c .before .before .before
+
+line-to : (c : tie.After-end Inv-loop μ-loop) →
+    let loop = loop-of c in
+    Cleaned (start loop .args .w .now) (loop .loop .p) (c .end .given .0 .0) (c .end .given .0 .1 .0)
+line-to c = rw (c .end .given .1) at (c .before .before .clean-line .ensures)
+
+-- it ends behind p
 sub-is-mail-from : tie.Need-sub-is-mail-from Inv-loop μ-loop
-sub-is-mail-from c = (rw (c .before .end .given .1) at (c .before .before .before .clean-line .ensures)) .from
+sub-is-mail-from c = line-to (c .before) .from
 
+-- so that it is a part of the window
 part-is-mail-from-start : tie.Need-part-is-mail-from-start Inv-loop μ-loop
-part-is-mail-from-start c = (rw (c .before .end .given .1) at (c .before .before .before .clean-line .ensures)) .from
+part-is-mail-from-start c = line-to (c .before) .from
 
+-- and not behind its end
 part-is-mail-from-end : tie.Need-part-is-mail-from-end Inv-loop μ-loop
-part-is-mail-from-end c =
-    let line = rw (c .before .end .given .1) at (c .before .before .before .clean-line .ensures) in
-    omega (arith, line .within, line .ends .within)
+part-is-mail-from-end c = let line = line-to (c .before) in omega (arith, line .within, line .ends .within)
 
+-- whether it begins MAIL FROM: was asked
+abbrev end-of : tie.After-is-mail-from Inv-loop μ-loop → tie.After-end Inv-loop μ-loop
+end-of c = c .before .before .before
+
+-- it does: its ends are in order
 tried-requires : tie.Need-tried-requires Inv-loop μ-loop
 tried-requires c κs =
-    let line = rw (c .before .before .before .before .before .end .given .1) at (c .before .before .before .before .before .before .before .clean-line .ensures) in
-    (c .before .before .before .before .before .before .before .before .before .before .before .pre .0, line .from, line .within, line .ends .within)
+    let end = end-of (c .before .before) in
+    let line = line-to end in
+    (start (loop-of end) .pre .0, line .from, line .within, line .ends .within)
 
--- a line that begins MAIL FROM: is tried
+-- and it is tried
 returns-2 : tie.Need-returns-2 Inv-loop μ-loop
 unfolding wants stateOf
 returns-2 c =
-    let line = rw (c .before .before .before .before .before .before .before .before .end .given .1) at (c .before .before .before .before .before .before .before .before .before .before .clean-line .ensures) in
-    λ k. looped-turn (c .before .before .before .before .before .before .before .before .before .before .before .loop .inv) k _ (c .before .before .tried .result) (c .before .before .tried .ensures k _ (piece-of seeking (line .ends) (seeking-from _ line (sym (c .before .before .before .before .before .is-mail-from .ensures) ∙ c .before .before .before .before .if1 .taken))))
+    let called = c .before .before in
+    let found = called .before .before in
+    let end = end-of (found .before) in
+    let line = line-to end in
+    let from = sym (found .before .is-mail-from .ensures) ∙ found .if1 .taken in
+    λ k.
+    looped-turn (loop-of end .loop .inv) k _ (called .tried .result)
+    (called .tried .ensures k _ (piece-of seeking (line .ends) (seeking-from _ line from)))
 
+-- it does not: fewer bytes are left behind it
 loop-less : tie.Need-loop-less Inv-loop μ-loop
-loop-less c =
-    let line = rw (c .before .before .before .before .end .given .1) at (c .before .before .before .before .before .before .clean-line .ensures) in
-    omega (arith, line .ends .on, line .ends .within)
+loop-less c = let line = line-to (end-of (c .before)) in omega (arith, line .ends .on, line .ends .within)
 
--- any other is skipped
+-- it is skipped
 loop-again : tie.Need-loop-again Inv-loop μ-loop
 unfolding wants enter enters
 loop-again c =
-    let line = rw (c .before .before .before .before .end .given .1) at (c .before .before .before .before .before .before .clean-line .ensures) in
-    looped-still (c .before .before .before .before .before .before .before .loop .inv) (piece-of seeking (line .ends) (seeking-on _ line (sym (c .before .is-mail-from .ensures) ∙ c .if1 .left))) refl refl
+    let end = end-of (c .before) in
+    let line = line-to end in
+    let other = sym (c .before .is-mail-from .ensures) ∙ c .if1 .left in
+    looped-still (loop-of end .loop .inv) (piece-of seeking (line .ends) (seeking-on _ line other)) refl refl
 
 pub seeking-spec : {M : Type 1} → statement M
 seeking-spec =

@@ -1,6 +1,7 @@
 -- `phases::envelope::sender` meets its contract: the line is tried. Assumes nothing.
 use mathlib.Core.Path.{refl}
 use native.Mathlib.Omega.{arith}
+use Rattle.reads.specs.Contracts.{Cleaned}
 use Rattle.rules.specs.Phases.{sender, wants}
 use Rattle.phases.specs.Phasing.{stateOf, Fits}
 use Rattle.phases.specs.declared.Phase.the-variants as is
@@ -10,22 +11,37 @@ use borrow.Author.Needs.{needs}
 use Rattle.phases.proofs.envelope.sender.Statement.{statement}
 use Rattle.phases.proofs.envelope.sender.Tie as tie
 
+-- ---- a line that ends at e, its clean part at `end`
+abbrev start : tie.After-end → tie.Start
+start c = c .before .before .before .before .before
+
+line-to : (c : tie.After-end) →
+    let a = start c .args in
+    Cleaned (a .w .now) (a .p) (c .end .given .0 .0) (c .end .given .0 .1 .0)
+line-to c = rw (c .end .given .1) at (c .before .before .clean-line .ensures)
+
+-- its ends are in order
 tried-requires : tie.Need-tried-requires
 tried-requires c κs =
-    let line = rw (c .before .before .end .given .1) at (c .before .before .before .before .clean-line .ensures) in
-    (c .before .before .before .before .before .before .before .pre .0, line .from, line .within, line .ends .within)
+    let end = c .before .before in
+    let line = line-to end in
+    (start end .pre .0, line .from, line .within, line .ends .within)
 
--- no line yet
+-- ---- no line is finished: the window is over
 returns : tie.Need-returns
 unfolding wants stateOf Fits
-returns c = λ k. waits-whole is.Sender sender refl (rw (c .enum-told .given .1) at (c .before .before .clean-line .ensures)) (c .before .before .before .before .before .pre .1) tt
+returns c =
+    let called = c .before .before in
+    let pre = called .before .before .before .pre in
+    λ k. waits-whole is.Sender sender refl (rw (c .enum-told .given .1) at (called .clean-line .ensures)) (pre .1) tt
 
--- the line is tried
+-- ---- the line is tried
 returns-2 : tie.Need-returns-2
 unfolding wants stateOf
 returns-2 c =
-    let line = rw (c .before .before .before .before .before .end .given .1) at (c .before .before .before .before .before .before .before .clean-line .ensures) in
-    λ k. c .before .before .tried .ensures k _ (piece-of sender (line .ends) (sender-by _ line))
+    let called = c .before .before in
+    let line = line-to (called .before .before .before) in
+    λ k. called .tried .ensures k _ (piece-of sender (line .ends) (sender-by _ line))
 
 pub sender-spec : {M : Type 1} → statement M
 sender-spec =
