@@ -14,24 +14,42 @@ Inv-loop w base kept₀ table₀ now₀ kept table now = Arrived w base kept₀ 
 abbrev μ-loop : tie.MeasureT-loop
 μ-loop w base kept₀ table₀ now₀ kept table now = length w - now .taken
 
+-- no phase is passed yet
 loop-holds : tie.Need-loop-holds Inv-loop μ-loop
 loop-holds c = arrived (c .before .before .before .pre .1)
 
+-- the present spot is one to go on from
 one-phase-requires : tie.Need-one-phase-requires Inv-loop μ-loop
-one-phase-requires c κs = (c .before .before .before .before .before .before .pre .0, ready (c .before .before .loop .inv))
+one-phase-requires c κs =
+    let loop = c .before .before in
+    let pre = loop .before .before .before .before .pre in
+    (pre .0, ready (loop .loop .inv))
 
+-- ---- a phase is passed: fewer bytes are left
 loop-less : tie.Need-loop-less Inv-loop μ-loop
 loop-less c =
-    let turned = (rw (c .before .next .given .1) at (c .before .before .before .before .before .before .before .one-phase .ensures)) .is in
+    let next = c .before in
+    let called = next .before .before .before .before .before .before in
+    let turned = (rw (next .next .given .1) at (called .one-phase .ensures)) .is in
     omega (arith, turned .farther, turned .came .within)
 
 -- on to the next phase
 loop-again : tie.Need-loop-again Inv-loop μ-loop
-loop-again c = arrived-on (c .before .before .before .before .before .before .before .before .before .before .loop .inv) (rw (c .before .next .given .1) at (c .before .before .before .before .before .before .before .one-phase .ensures)) (c .before .before .before .before .before .before .before .one-phase .kept .1 .1 .1 .0) (c .before .before .before .before .before .before .before .one-phase .kept .1 .1 .1 .1 .0)
+loop-again c =
+    let next = c .before in
+    let called = next .before .before .before .before .before .before in
+    let loop = called .before .before .before in
+    let turned = rw (next .next .given .1) at (called .one-phase .ensures) in
+    let same = called .one-phase .kept .1 .1 .1 in
+    arrived-on (loop .loop .inv) turned (same .0) (same .1 .0)
 
--- the window is over
+-- ---- the window is over
 returns : tie.Need-returns Inv-loop μ-loop
-returns c = arrived-last (c .before .before .before .before .before .before .before .before .before .before .loop .inv) (rw (c .before .last .given .1) at (c .before .before .before .before .before .before .before .one-phase .ensures))
+returns c =
+    let last = c .before in
+    let called = last .before .before .before .before .before .before in
+    let loop = called .before .before .before in
+    arrived-last (loop .loop .inv) (rw (last .last .given .1) at (called .one-phase .ensures))
 
 pub advance-spec : {M : Type 1} → statement M
 advance-spec =

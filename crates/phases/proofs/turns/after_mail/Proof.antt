@@ -7,14 +7,17 @@ use borrow.Author.Needs.{needs}
 use Rattle.phases.proofs.turns.after_mail.Statement.{statement}
 use Rattle.phases.proofs.turns.after_mail.Tie as tie
 
+-- an SMTP client's: the session is over
 returns : tie.Need-returns
 unfolding afterMail enter enters stateOf Fits
 returns c = λ k. rw (c .enum-told .given .1) (record { is = refl; fits = tt })
 
+-- a POP3 server's: a status line follows
 returns-2 : tie.Need-returns-2
 unfolding afterMail enter enters stateOf Fits
 returns-2 c = λ k. rw (c .enum-told2 .given .1) (record { is = refl; fits = tt })
 
+-- an IMAP client's: the two bytes behind the literal follow
 returns-3 : tie.Need-returns-3
 unfolding afterMail enter enters stateOf Fits
 returns-3 c = λ k. rw (c .enum-told3 .given .1) (record { is = refl; fits = tt })
