@@ -1,9 +1,9 @@
 -- The loop over phases: what each phase may ask, where a session ends, and how turns add up to a window.
 -- Assumes nothing.
 use mathlib.Core.Path.{_≡_, refl, sym, ap, _∙_}
-use mathlib.Core.Bool.{Bool, true, false, cond}
+use mathlib.Core.Bool.{Bool, cond}
 use mathlib.Core.List.{List}
-use Prim.Native.Nat.{ℕ, _+_, _≤_, _<_}
+use Prim.Native.Nat.{ℕ, _+_, _≤_}
 use native.Mathlib.Omega.{arith}
 use lib.Dec.{eqb}
 use lib.ListN.{length, drop}
@@ -18,12 +18,11 @@ use Rattle.rules.specs.Phases.{ends}
 use Rattle.rules.specs.Sessions.{resultOf}
 use Rattle.rules.specs.declared.Mail.{Mail}
 use Rattle.windows.proofs.Cut.{over-stays}
-use Rattle.windows.specs.Stands.{fresh, pieces, standResult}
+use Rattle.windows.specs.Stands.{fresh, standResult}
 use Rattle.windows.specs.Windows.{over, keeps, landed, lands}
 use Rattle.phases.proofs.Turning.{came-goes}
-use Rattle.phases.specs.Phasing.{Slots, stateOf, Fits, Came, Leaves, Goes, Ready, Turned, Went}
+use Rattle.phases.specs.Phasing.{Slots, stateOf, Fits, Came, Goes, Ready, Turned, Went}
 use Rattle.phases.specs.declared.Heard.{Heard}
-use Rattle.phases.specs.declared.Phase.{Phase}
 use Rattle.phases.specs.declared.Phase.the-variants as is
 use Rattle.phases.specs.declared.Spot.{Spot}
 use Rattle.phases.specs.declared.Turn.the-variants as turn

@@ -31,7 +31,7 @@ use Rattle.reads.specs.declared.Noted.{Noted}
 use Rattle.reads.specs.declared.Noted.the-variants as noted
 use Rattle.reads.specs.declared.Stop.{Stop}
 use Rattle.rules.specs.Machine.{Reaction}
-use Rattle.rules.specs.Mail.{begun, boundaryFree, plainMail, literalBody, rest, popped, onHead}
+use Rattle.rules.specs.Mail.{begun, boundaryFree, plainMail, literalBody, rest, onHead}
 use Rattle.rules.specs.Phases as phase
 use Rattle.rules.specs.Phases.{State, reads, wants, then, ahead}
 use Rattle.rules.specs.Sessions.{reacts}
@@ -41,7 +41,7 @@ use Rattle.windows.specs.Stands.{Stand, fresh, enter, enters, opens, copied, cl
 use Rattle.windows.specs.Windows.{lands}
 use Rattle.phases.proofs.Reactions.{offered-mail, offered-not}
 use Rattle.phases.proofs.Turning.{to-end, piece-of, waits-whole, leads, leads-written, leads-full, came-leaves, came-goes, came-turn}
-use Rattle.phases.specs.Phasing.{slot, outside, Slots, Kept, boundaryOf, knownAs, unheard, stateOf, Fits, Enters, Piece, Came, TurnIs, HeadIs, overOf, onwardOf}
+use Rattle.phases.specs.Phasing.{slot, outside, Slots, Kept, boundaryOf, knownAs, unheard, stateOf, Fits, Piece, Came, TurnIs, HeadIs, overOf, onwardOf}
 use Rattle.phases.specs.Phasing.{Learns, BegunIs, DeeperIs}
 use Rattle.phases.specs.declared.Heard.{Heard}
 use Rattle.phases.specs.declared.Phase.{Phase}
@@ -221,8 +221,9 @@ head-piece : (base : ℕ) {w : List ℕ} {p e : ℕ} (m : Mail) (y : Known) (os 
 unfolding reacts onHead wants
 head-piece base m y os b d q = piece-of (phase.head m y os) d (rw (q, to-end base d, d .long))
 
-pub later : {m : Mail} {a b : ℕ} → Begins m a → a ≤ b → Begins m b
-later h g = record { is = λ size start q. omega (arith, h .is size start q) }
+-- a mail that has begun before a has begun before what is behind it
+pub begins-later : {m : Mail} {a : ℕ} (to : ℕ) → Begins m a → a ≤ to → Begins m to
+begins-later to d h = record { is = λ size start q. omega (arith, d .is size start q) }
 
 -- the loop's invariant: what is left at p, with what is heard, is what was left at a for the phase ph
 pub record HeadAt (w : List ℕ) (base a : ℕ) (k₀ t₀ : List ℕ) (log₀ : Log) (ph : Phase) (m : Mail) (x : Heard) (i : ℕ) (k : List ℕ) (p : ℕ) (t : List ℕ) (log : Log) : Type 0 where
@@ -271,7 +272,7 @@ module _ {w : List ℕ} {base a : ℕ} {k₀ t₀ : List ℕ} {log₀ : Log} {ph
           let g : stateOf k' (is.Head m r i) ≡ enter (reads (phase.head m (scanned (knownAs k i x) (part w p e)) (outside k i))) (base + e) =
           ap (λ (z : Known). fresh (reads (phase.head m z (outside k' i)))) (y .is)
           ∙ ap (λ (os : List (List ℕ)). fresh (reads (phase.head m (clipped (scanned (knownAs k i x) (part w p e))) os))) (y .outer) in
-          let b : Begins m (base + e) = later (at .begins) (omega (arith, d .on)) in
+          let b : Begins m (base + e) = begins-later (base + e) (at .begins) (omega (arith, d .on)) in
           let l =
           came-leaves (at .from) (at .came)
           (leads-written (head-piece base m (knownAs k i x) (outside k i) false d h) {k = k'} {ph = is.Head m r i} n (record { is = g; fits = (at .deep, b) })) in
@@ -298,14 +299,6 @@ module _ {w : List ℕ} {base a : ℕ} {k₀ t₀ : List ℕ} {log₀ : Log} {ph
                 came-turn k v (onwardOf (b .noted) (b .phase) e) (at .from) (at .came)
                 (leads (head-piece base m (knownAs k i x) (outside k i) true d h) k t log (b .noted) v (b .phase) (notes-on (re .events) (b .noted) v n (y .notes)) (y .enters));
           })
-
--- ---- a level is left: the outer one reads a header
-pub pops : (m : Mail) (i to : ℕ) {x : Heard} → x ≡ unheard → (i ≡ 0 → ⊥) → i ≤ 8 → Begins m to → (k : List ℕ) → Enters k (popped m (outside k i) to) to (is.Head m x i)
-unfolding popped outside enter enters clipped copied stateOf Fits
-pops m i to q h g b k =
-    let z : i ≡ suc (i - 1) = omega arith in
-    let o : outside k i ≡ slot k (i - 1) ∷ outside k (i - 1) = ap (outside k) z in
-    rw q (record { is = rw o; fits = (g, b) })
 
 -- ---- the line behind an append, only peeked at
 pub begins-here : (size at : ℕ) → Begins (Imap size at) at

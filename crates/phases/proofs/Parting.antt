@@ -7,8 +7,8 @@ use Prim.Native.Nat.{ℕ, zero, suc, _+_, _-_, _*_, _≤_, _<_, min}
 use native.Mathlib.Numerals.{add-one}
 use native.Mathlib.Omega.{arith}
 use lib.Dec.{eqb, leb, ltb}
-use lib.ListN.{length, take, drop, getD, set, length-set, length-take, length-drop}
-use lib.Seq.{take-suc, take-suc-set, take-set-le, drop-set-add, drop-set-lt, getD-set-same, getD-set-other, take-all, take-take, drop-drop, getD-take, getD-drop}
+use lib.ListN.{length, take, drop, getD, set, length-set, length-drop}
+use lib.Seq.{take-suc, take-suc-set, take-set-le, drop-set-add, drop-set-lt, getD-set-same, getD-set-other, take-all, drop-drop, getD-drop}
 use borrow.Author.Tests.{eqb-true, eqb-false, ne-eqb, leb-true, leb-false, ltb-true, ltb-false, lt-ltb, le-ltb}
 use Rattle.events.specs.Events.{partBody}
 use Rattle.events.specs.Table.{pour}
@@ -17,7 +17,6 @@ use Rattle.events.specs.declared.Log.{Log}
 use Rattle.events.specs.declared.Outcome.{Outcome}
 use Rattle.events.specs.declared.Outcome.the-variants.{BadDelimiter, Incomplete}
 use Rattle.fields.specs.Common.{part, unknown}
-use Rattle.reading.proofs.Pieces.{drop-take}
 use Rattle.reading.proofs.Places.{by-test}
 use Rattle.reading.proofs.Words.{rest-is}
 use Rattle.reading.specs.Bytes.{startsWith, same, endsWith, firstPlace}
@@ -40,6 +39,7 @@ use Rattle.windows.specs.Pieces.{Mark, word, orElse, standing, pieceOf, isAt, i
 use Rattle.windows.specs.Stands.{Stand, inPreamble, inContent, copied, clipped, enters, enter, goesOn, takes, does, pieces}
 use Rattle.windows.specs.Windows.{over, keeps, landed, lands}
 use Rattle.phases.proofs.Turning.{to-end, leads-still}
+use Rattle.phases.proofs.Heading.{slot-length, begins-later}
 use Rattle.phases.specs.Phasing.{slot, outside, Slots, Kept, unheard, stateOf, Fits, Enters, Piece, Leaves, Goes, ByLines, Found, Waits, SoughtIs, LastLf}
 use Rattle.phases.specs.declared.Heard.{Heard}
 use Rattle.phases.specs.declared.Phase.{Phase}
@@ -92,40 +92,7 @@ short-take b n h =
     (λ t. take-all n b (omega (arith, ltb-true (length b) 71 t)) ∙ sym (take-all 71 b (omega (arith, ltb-true (length b) 71 t))))
     (λ t. let e : n ≡ 71 = omega (arith, ltb-false (length b) 71 t) in rw e)
 
--- the slots outside are as they were
-slot-same : (k k' : List ℕ) (i j : ℕ) → take (i * 72) k' ≡ take (i * 72) k → j < i → getD k (j * 72) 0 ≤ 71 → slot k' j ≡ slot k j
-slot-same k k' i j h g l =
-    let n : getD k' (j * 72) 0 ≡ getD k (j * 72) 0 =
-    sym (getD-take (i * 72) k' (j * 72) 0 (omega arith)) ∙ ap (λ (x : List ℕ). getD x (j * 72) 0) h ∙ getD-take (i * 72) k (j * 72) 0 (omega arith) in
-    let m = getD k (j * 72) 0 in
-    let o = j * 72 + 1 in
-    let a : take (i * 72 - o) (drop o k') ≡ take (i * 72 - o) (drop o k) = sym (drop-take o (i * 72) k') ∙ ap (drop o) h ∙ drop-take o (i * 72) k in
-    rw n (sym (take-take m (i * 72 - o) (drop o k') (omega arith)) ∙ ap (take m) a ∙ take-take m (i * 72 - o) (drop o k) (omega arith))
-
-outside-same : (k k' : List ℕ) (i j : ℕ) → take (i * 72) k' ≡ take (i * 72) k → j ≤ i → ((x : ℕ) → x < j → getD k (x * 72) 0 ≤ 71) → outside k' j ≡ outside k j
-unfolding outside
-outside-same k k' i zero h g l = refl
-outside-same k k' i (suc j) h g l =
-    rw (slot-same k k' i j h (omega arith) (l j (omega arith)), outside-same k k' i j h (omega arith) (λ x y. l x (omega arith)))
-
-module _ {k : List ℕ} {i : ℕ} {b k' : List ℕ} (d : Kept k i b k') (s : Slots k) where
-  pub kept-outside : i ≤ 8 → outside k' i ≡ outside k i
-  kept-outside h = outside-same k k' i i (d .front) (omega arith) (λ x y. s .short x (omega arith))
-
-  pub kept-slots : Slots k'
-  kept-slots = record {
-    long = d .long ∙ s .long;
-    short = λ j h.
-        by-test (eqb j i)
-        (λ t. rw (eqb-true j i t) (d .own))
-        (λ t. rw (d .others j (eqb-false j i t)) (s .short j h));
-  }
-
 -- ---- copies that are kept
-pub slot-length : {k : List ℕ} (i : ℕ) → Slots k → i < 9 → length (slot k i) ≡ getD k (i * 72) 0
-slot-length {k} i s h =
-    omega (arith, length-take (getD k (i * 72) 0) (drop (i * 72 + 1) k), length-drop (i * 72 + 1) k, s .long, s .short i h)
-
 pub slot-fits : {k : List ℕ} {i : ℕ} → Slots k → i ≤ 7 → getD k (i * 72) 0 ≤ 71
 slot-fits {k} {i} s h = s .short i (omega arith)
 
@@ -142,7 +109,7 @@ outermost-slot k zero = refl
 outermost-slot k (suc i) = outermost-slot k i
 
 outermost-length : {k : List ℕ} (i : ℕ) → Slots k → length (outermost (slot k i) (outside k i)) ≡ getD k (0 * 72) 0
-outermost-length {k} i s = ap length (outermost-slot k i) ∙ slot-length 0 s (omega arith)
+outermost-length {k} i s = ap length (outermost-slot k i) ∙ slot-length k 0 s (omega arith)
 
 -- ---- from i on no LF stands
 pub record NoLf (s : List ℕ) (i : ℕ) : Type 0 where
@@ -386,9 +353,6 @@ content-lines : (m : Mail) (e : Encoding) (b : List ℕ) (os : List (List ℕ)) 
     → ByLines b (inContent m e b os from) (λ to. onContent m e b os from (to - from))
 unfolding takes does
 content-lines m e b os from = record { takes = λ u s. refl; does = λ u at l. refl }
-
-pub begins-later : {m : Mail} {a : ℕ} (to : ℕ) → Begins m a → a ≤ to → Begins m to
-begins-later to d h = record { is = λ size start q. omega (arith, d .is size start q) }
 
 module _ {w : List ℕ} (base : ℕ) {p : ℕ} (k : List ℕ) (m : Mail) (i from : ℕ) (here : Bool) (h : i ≤ 7) (g : from ≤ base + p) (j : Begins m (base + p)) where
   pub preamble-waits : {t : List ℕ} {log : Log} {q : ℕ} {there : Bool} → Waits w p (slot k i) here q there

@@ -1,7 +1,7 @@
 -- What each phase does with its piece, as the code meets it: the envelope, lines of the other sides, and bodies with no boundary.
 -- Assumes nothing.
 use mathlib.Core.Path.{_≡_, refl, sym, ap, _∙_}
-use mathlib.Core.Bool.{Bool, true, false, cond}
+use mathlib.Core.Bool.{true, false, cond}
 use mathlib.Core.List.{List, [], _∷_}
 use Prim.Native.Nat.{ℕ, _+_, _-_, _≤_}
 use native.Mathlib.Omega.{arith}
@@ -19,7 +19,6 @@ use Rattle.fields.specs.Common.{part, unknown}
 use Rattle.fields.specs.Imap.{isAppend, appendSize, holdsColon}
 use Rattle.fields.specs.Pop3.{stlsAnswer, retrAnswer}
 use Rattle.fields.specs.Smtp.{startsWithHelo, isMailFrom, secondLine, isData, mailFrom, rcptTo}
-use Rattle.fields.specs.declared.smtp.Address.{Address}
 use Rattle.fields.specs.declared.smtp.Address.the-variants.{Given, Missing}
 use Rattle.fields.specs.declared.smtp.Second.{Second}
 use Rattle.reading.specs.Bytes.{startsWith, same}
@@ -29,7 +28,6 @@ use Rattle.reads.proofs.Laws.{clean-length, ends-at}
 use Rattle.reads.specs.Contracts.{Ends, Cleaned, Pair, NoPair, Full}
 use Rattle.reads.specs.declared.Stop.{Stop}
 use Rattle.rules.specs.Imap.{onCommand, onOffered, onClosing}
-use Rattle.rules.specs.Machine.{Reaction}
 use Rattle.rules.specs.Mail.{dotLine, hyphens, afterMail, onText, onLiteral}
 use Rattle.rules.specs.Phases as phase
 use Rattle.rules.specs.Phases.{reads, wants, then, stop}

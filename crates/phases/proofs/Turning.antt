@@ -1,26 +1,23 @@
 -- Turns of a window, put together: what a piece, its events and another turn leave to do.
 -- Assumes nothing.
 use mathlib.Core.Path.{_≡_, refl, sym, ap, _∙_}
-use mathlib.Core.Bool.{Bool, true, false, cond}
 use mathlib.Core.List.{List, [], _∷_, _++_, append-nil}
-use Prim.Native.Nat.{ℕ, suc, _+_, _-_, _≤_, _<_}
+use Prim.Native.Nat.{ℕ, suc, _+_, _-_, _≤_}
 use native.Mathlib.Omega.{arith}
-use lib.Dec.{eqb}
 use lib.ListN.{length, drop}
 use Rattle.events.proofs.Laws.{further, pour-append}
-use Rattle.events.specs.Events.{resultNumber}
 use Rattle.events.specs.Table.{Poured, all, full, pour}
 use Rattle.events.specs.declared.Event.{Event}
 use Rattle.events.specs.declared.Log.{Log}
 use Rattle.events.specs.declared.Outcome.{Outcome}
 use Rattle.events.specs.declared.Outcome.the-variants.{TableFull}
 use Rattle.fields.specs.Common.{part, unknown}
-use Rattle.reading.specs.Reading.{Need, got, short, reach, parted, fetch}
+use Rattle.reading.specs.Reading.{Need, short, parted, fetch}
 use Rattle.reads.specs.Contracts.{Ends, Stops, Notes, Written, Full, Begins}
 use Rattle.reads.specs.declared.Noted.{Noted}
 use Rattle.reads.specs.declared.Noted.the-variants as noted
 use Rattle.reads.specs.declared.Stop.{Stop}
-use Rattle.rules.specs.Machine.{Reaction, Ran, stay, before}
+use Rattle.rules.specs.Machine.{Reaction, Ran, before}
 use Rattle.rules.specs.Mail.{afterMail, popped}
 use Rattle.rules.specs.Phases as phase
 use Rattle.rules.specs.Phases.{State, reads, ends, need, wants}
@@ -30,7 +27,7 @@ use Rattle.windows.proofs.Courses.{pieces-short, pieces-got}
 use Rattle.windows.proofs.Cut.{over-stays}
 use Rattle.windows.specs.Stands.{Stand, fresh, enter, enters, clipped, copied, takes, does, pieces, standResult}
 use Rattle.windows.specs.Windows.{over, keeps, refused, landed, lands}
-use Rattle.phases.specs.Phasing.{slot, outside, unheard, stateOf, Fits, Enters, Piece, Came, Leaves, Goes, TurnIs, overOf, onwardOf}
+use Rattle.phases.specs.Phasing.{slot, outside, unheard, stateOf, Fits, Enters, Piece, Came, Leaves, Goes, TurnIs, onwardOf}
 use Rattle.phases.specs.declared.Heard.{Heard}
 use Rattle.phases.specs.declared.Phase.{Phase}
 use Rattle.phases.specs.declared.Phase.the-variants as is

@@ -2,7 +2,6 @@
 use Prim.Native.Nat.{_-_}
 use native.Mathlib.Omega.{arith}
 use lib.ListN.{length}
-use mathlib.Core.Path.{_∙_}
 use Rattle.phases.proofs.Dispatch.{Arrived, arrived, ready, arrived-on, arrived-last}
 use borrow.Author.Needs.{needs}
 use Rattle.phases.proofs.advance.Statement.{statement}

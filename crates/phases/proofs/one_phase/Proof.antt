@@ -1,5 +1,4 @@
 -- `phases::one_phase` meets its contract: each phase has its function, and an end takes what it may. Assumes nothing.
-use mathlib.Core.Path.{refl}
 use Rattle.phases.proofs.Dispatch.{ready-head, ready-literal, ready-preamble, ready-opened, ready-content, ready-between, ready-skipping, ready-resting, ends-here}
 use borrow.Author.Needs.{needs}
 use Rattle.phases.proofs.one_phase.Statement.{statement}

@@ -1,6 +1,5 @@
 -- `phases::envelope::sender` meets its contract: the line is tried. Assumes nothing.
 use mathlib.Core.Path.{refl}
-use native.Mathlib.Omega.{arith}
 use Rattle.reads.specs.Contracts.{Cleaned}
 use Rattle.rules.specs.Phases.{sender, wants}
 use Rattle.phases.specs.Phasing.{stateOf, Fits}

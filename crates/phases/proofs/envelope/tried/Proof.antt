@@ -1,5 +1,5 @@
 -- `phases::envelope::tried` meets its contract, by whether the line holds a sender. Assumes nothing.
-use mathlib.Core.Path.{refl, sym, ap, _∙_}
+use mathlib.Core.Path.{refl, sym, _∙_}
 use Prim.Native.Nat.{_+_, _-_, _≤_}
 use native.Mathlib.Omega.{arith}
 use Rattle.rules.specs.Smtp.{given}

@@ -7,7 +7,7 @@ use borrow.Author.Needs.{needs}
 use Rattle.reading.specs.Reading.{aLine}
 use Rattle.reads.specs.Contracts.{Ends}
 use Rattle.phases.specs.declared.Phase.the-variants.{Head}
-use Rattle.phases.proofs.Heading.{HeadAt, head-start, head-short, head-full, head-on, head-begun, later}
+use Rattle.phases.proofs.Heading.{HeadAt, head-start, head-short, head-full, head-on, head-begun, begins-later}
 use Rattle.phases.proofs.header.head.Statement.{statement}
 use Rattle.phases.proofs.header.head.Tie as tie
 
@@ -109,7 +109,7 @@ behind-requires c κs =
     let line = next-line (blank-next (c .before .before)) in
     let inv = loop-of line .loop .inv in
     let to = line-to line in
-    (omega (arith, to .within, start-of (loop-of line) .pre .0), inv .deep, inv .slots, later (inv .begins) (omega (arith, to .on)))
+    (omega (arith, to .within, start-of (loop-of line) .pre .0), inv .deep, inv .slots, begins-later _ (inv .begins) (omega (arith, to .on)))
 
 same-length-5 : tie.Need-same-length-5 Inv-loop μ-loop
 same-length-5 c = loop-of (next-line (blank-next (c .before .before .before .before .before .before))) .loop .inv .as-many

@@ -6,7 +6,8 @@ use borrow.Author.Needs.{needs}
 use Rattle.phases.specs.Phasing.{slot, SoughtIs, Found}
 use Rattle.phases.specs.declared.Phase.the-variants as is
 use Rattle.phases.proofs.Turning.{leads}
-use Rattle.phases.proofs.Parting.{slot-part, slot-fits, slot-inside, slot-length, begins-later, content-waits, content-piece, enters-between}
+use Rattle.phases.proofs.Heading.{slot-length, begins-later}
+use Rattle.phases.proofs.Parting.{slot-part, slot-fits, slot-inside, content-waits, content-piece, enters-between}
 use Rattle.phases.proofs.parts.content.Statement.{statement}
 use Rattle.phases.proofs.parts.content.Tie as tie
 
@@ -78,7 +79,7 @@ returns-2 c =
     let pre = start called .pre in
     let k = a .kept .now in
     let to = a .base + told .before .e .given .0 .0 in
-    let long = called .length-at .ensures ∙ sym (slot-length (a .level) (pre .4) (omega (arith, pre .2))) in
+    let long = called .length-at .ensures ∙ sym (slot-length k (a .level) (pre .4) (omega (arith, pre .2))) in
     let d = found told in
     rw (c .onward .ensures)
     (leads (content-piece (a .base) k (a .mail) (a .level) (a .from) (a .here) (pre .2) (pre .3) (pre .5) (a .encoding) long d)

@@ -12,7 +12,8 @@ use Rattle.rules.specs.Phases.{wants}
 use Rattle.phases.specs.Phasing.{slot, outside, stateOf, Fits}
 use Rattle.phases.specs.declared.Phase.the-variants as is
 use Rattle.phases.proofs.Turning.{piece-of, waits-whole, leads-still}
-use Rattle.phases.proofs.Parting.{begins-later, opened-crlf, opened-hyphens, opened-other, enters-part, enters-over}
+use Rattle.phases.proofs.Heading.{begins-later}
+use Rattle.phases.proofs.Parting.{opened-crlf, opened-hyphens, opened-other, enters-part, enters-over}
 use Rattle.phases.proofs.parts.opened.Statement.{statement}
 use Rattle.phases.proofs.parts.opened.Tie as tie
 

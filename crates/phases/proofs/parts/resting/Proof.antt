@@ -9,7 +9,8 @@ use Rattle.rules.specs.Phases.{wants}
 use Rattle.phases.specs.Phasing.{slot, outside, stateOf, Fits}
 use Rattle.phases.specs.declared.Phase.the-variants as is
 use Rattle.phases.proofs.Turning.{piece-of, waits-whole, leads-still}
-use Rattle.phases.proofs.Parting.{begins-later, resting-all, bytes-stop, bytes-end}
+use Rattle.phases.proofs.Heading.{begins-later}
+use Rattle.phases.proofs.Parting.{resting-all, bytes-stop, bytes-end}
 use Rattle.phases.proofs.parts.resting.Statement.{statement}
 use Rattle.phases.proofs.parts.resting.Tie as tie
 

@@ -14,7 +14,8 @@ use Rattle.rules.specs.Phases.{wants}
 use Rattle.phases.specs.Phasing.{slot, outside, stateOf, Fits, Piece}
 use Rattle.phases.specs.declared.Phase.the-variants as is
 use Rattle.phases.proofs.Turning.{Looped, not-yet, looped-still, looped-leaves, looped-goes, piece-of, waits-whole, leads-still}
-use Rattle.phases.proofs.Parting.{slot-fits, slot-inside, begins-later, outermost-is, skipping-last, skipping-on, enters-resting, skips-on}
+use Rattle.phases.proofs.Heading.{begins-later}
+use Rattle.phases.proofs.Parting.{slot-fits, slot-inside, outermost-is, skipping-last, skipping-on, enters-resting, skips-on}
 use Rattle.phases.proofs.parts.skipping.Statement.{statement}
 use Rattle.phases.proofs.parts.skipping.Tie as tie
 
