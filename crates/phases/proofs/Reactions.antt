@@ -181,7 +181,9 @@ module _ {w : List ℕ} {base p end e : ℕ} (d : Cleaned w p end e) {k t : List
       → Leaves w base p k t log (fresh (reads phase.reply)) (record { phase = over-at.Over (a .result) (a .place); taken = e; log = a .log }) u
   unfolding reacts onReply wants
   reply-full n =
-      leads-full (piece-of phase.reply (d .ends) refl) (cond (startsWith (text "221") (clean (part w p e))) (stop [] Done (base + p + length (part w p e))) (then [] phase.reply) .events)
+      let l = part w p e in
+      leads-full (piece-of phase.reply (d .ends) refl)
+      (cond (startsWith (text "221") (clean l)) (stop [] Done (base + p + length l)) (then [] phase.reply) .events)
       (rw (clean-length d)) n
 
   pub status-full : Full t log (ev serverLine (base + p) (end - p) Unsaid ∷ []) a u

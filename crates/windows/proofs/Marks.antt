@@ -1,24 +1,23 @@
 -- Reads up to a mark: taken by lines they come to what they come to at once, whatever the mark is. The delimiter is the case of a word.
 -- Assumes nothing.
 use mathlib.Core.Path.{_≡_, refl, sym, ap, _∙_}
-use mathlib.Core.Bool.{Bool, true, false, cond, _&&_, _||_}
+use mathlib.Core.Bool.{Bool, true, false, cond, _&&_}
 use mathlib.Core.List.{List, [], _∷_, _++_, append-assoc}
 use Prim.Native.Nat.{ℕ, zero, suc, _+_, _-_, _≤_, _<_}
 use native.Mathlib.Omega.{arith}
-use lib.Dec.{eqb, leb}
-use lib.ListN.{length, take, drop, getD, length-append, length-take, length-drop, take-append-drop, List·getD-append}
-use lib.Seq.{drop-drop, getD-drop, take-at, drop-at, length-take-le, take-all}
-use borrow.Author.Tests.{eqb-true, eqb-false, eq-eqb, ne-eqb, leb-true, leb-false}
+use lib.Dec.{eqb}
+use lib.ListN.{length, take, drop, getD, length-append, length-take, take-append-drop}
+use lib.Seq.{drop-drop, getD-drop, take-at, drop-at, length-take-le}
+use borrow.Author.Tests.{eqb-true, eqb-false, eq-eqb, ne-eqb}
 use Rattle.reading.proofs.Ends.{ends-short, ends-crlf}
 use Rattle.reading.proofs.Pieces.{got-reach, got-length, got-splits, got-moves, got-holds, past-at}
 use Rattle.reading.proofs.Places.{by-test, first-is}
-use Rattle.reading.proofs.Words.{both-true, starts-long, starts-is, starts-take}
-use Rattle.reading.specs.Bytes.{startsWith, endsWith, first, firstPlace, holds}
-use Rattle.reading.specs.Reading.{crlf, dash, mayStand, delimits, aLine, delimiter, past, reach, Got, got, short, parted, fetch}
+use Rattle.reading.specs.Bytes.{endsWith, first, firstPlace, holds}
+use Rattle.reading.specs.Reading.{crlf, aLine, past, reach, Got, got, short, parted, fetch}
 use Rattle.reading.specs.declared.Place.{Place}
 use Rattle.reading.specs.declared.Place.the-variants.{At, Nowhere}
 use Rattle.windows.proofs.Piecemeal.{onto, Piecemeal}
-use Rattle.windows.specs.Pieces.{Mark, word, orElse, standing, pieceOf, isAt, isMark}
+use Rattle.windows.specs.Pieces.{Mark, orElse, standing, pieceOf, isAt, isMark}
 
 -- ---- what is asked of a mark: it lies inside the bytes, is one alone, and stays one with more behind it
 pub record Marks (mark : Mark) : Type 0 where

@@ -50,12 +50,15 @@ loop-holds c =
 line-requires : tie.Need-line-requires Inv-loop μ-loop
 line-requires c κs = c .loop .inv .came .within
 
+-- the copies are as many as they were
 same-length : tie.Need-same-length Inv-loop μ-loop
 same-length c = c .before .before .before .loop .inv .as-many
 
+-- the table is as long as it was
 same-length-2 : tie.Need-same-length-2 Inv-loop μ-loop
 same-length-2 c = c .before .before .before .loop .inv .long
 
+-- the window is over
 returns : tie.Need-returns Inv-loop μ-loop
 returns c = head-short (c .before .before .before .loop .inv) (rw (c .enum-told .given .1) at (c .before .before .line .ensures))
 
@@ -65,9 +68,11 @@ add-note c =
     let loop = loop-of (c .before .before) in
     omega (arith, loop .loop .inv .came .within, start-of loop .pre .0)
 
+-- it ends behind p
 sub-note : tie.Need-sub-note Inv-loop μ-loop
 sub-note c = omega (arith, line-to (c .before .before) .on)
 
+-- where it begins and how long it is fit a slot of the table
 note-requires : tie.Need-note-requires Inv-loop μ-loop
 note-requires c κs =
     let line = c .before .before in
@@ -79,11 +84,13 @@ note-requires c κs =
 same-length-3 : tie.Need-same-length-3 Inv-loop μ-loop
 same-length-3 c = loop-of (c .before .before .before .before .before .before .before .before .before) .loop .inv .as-many
 
+-- and the table as long
 same-length-4 : tie.Need-same-length-4 Inv-loop μ-loop
 same-length-4 c =
     let called = c .before .before .before .before .before .before in
     called .note .kept .0 ∙ loop-of (called .before .before .before) .loop .inv .long
 
+-- the session is over
 returns-2 : tie.Need-returns-2 Inv-loop μ-loop
 returns-2 c =
     let full = c .before .before in
@@ -95,6 +102,7 @@ returns-2 c =
 sub-equals : tie.Need-sub-equals Inv-loop μ-loop
 sub-equals c = omega (arith, line-to (next-line (c .before)) .on)
 
+-- it ends in the window
 part-equals-end : tie.Need-part-equals-end Inv-loop μ-loop
 part-equals-end c = line-to (next-line (c .before)) .within
 
@@ -104,6 +112,7 @@ add-behind c =
     let line = next-line (blank-next c) in
     omega (arith, line-to line .within, start-of (loop-of line) .pre .0)
 
+-- and behind where the mail began
 behind-requires : tie.Need-behind-requires Inv-loop μ-loop
 behind-requires c κs =
     let line = next-line (blank-next (c .before .before)) in
@@ -111,14 +120,17 @@ behind-requires c κs =
     let to = line-to line in
     (omega (arith, to .within, start-of (loop-of line) .pre .0), inv .deep, inv .slots, begins-later _ (inv .begins) (omega (arith, to .on)))
 
+-- the copies are as many as they were
 same-length-5 : tie.Need-same-length-5 Inv-loop μ-loop
 same-length-5 c = loop-of (next-line (blank-next (c .before .before .before .before .before .before))) .loop .inv .as-many
 
+-- the table is as long as it was
 same-length-6 : tie.Need-same-length-6 Inv-loop μ-loop
 same-length-6 c =
     let next = blank-next (c .before .before .before .before .before .before) in
     c .before .before .before .behind .kept .1 .1 .1 .1 .1 .0 ∙ next .before .before .before .before .note .kept .0 ∙ loop-of (next-line next) .loop .inv .long
 
+-- what is behind it begins, or the table is full
 returns-3 : tie.Need-returns-3 Inv-loop μ-loop
 returns-3 c =
     let tested = c .before .before .before .before .before .before in
@@ -137,11 +149,13 @@ learn-requires c κs =
     let to = line-to line in
     (omega (arith, to .on), to .within, inv .deep, inv .slots)
 
+-- fewer bytes are left behind it
 loop-less : tie.Need-loop-less Inv-loop μ-loop
 loop-less c =
     let line = line-to (next-line (other-next (c .before .before .before .before))) in
     omega (arith, line .on, line .within)
 
+-- what is heard is known there
 loop-again : tie.Need-loop-again Inv-loop μ-loop
 loop-again c =
     let tested = c .before .before .before .before in

@@ -27,6 +27,7 @@ returns-2 c =
 add-end : tie.Need-add-end
 add-end c = omega (arith, rw (c .before .supplied .given .1) at (c .before .before .before .scan-line .ensures .inside))
 
+-- so that it is a part of it
 part-keep-end : tie.Need-part-keep-end
 part-keep-end c = omega (arith, rw (c .before .before .supplied .given .1) at (c .before .before .before .before .scan-line .ensures .inside))
 

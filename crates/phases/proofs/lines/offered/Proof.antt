@@ -20,16 +20,18 @@ line-to c = rw (c .e .given .1) at (c .before .before .line .ensures)
 line-requires : tie.Need-line-requires
 line-requires c κs = c .before .before .before .pre .1
 
+-- the window is over
 returns-2 : tie.Need-returns-2
 returns-2 c =
     let called = c .before .before in
-    let pre = c .before .before .before .before .before .before .pre in
+    let pre = called .before .before .before .before .pre in
     offered-short (rw (c .enum-told .given .1) at (called .line .ensures)) (pre .1) (pre .2)
 
 -- ---- the part in which a colon is sought
 sub-has-colon : tie.Need-sub-has-colon
 sub-has-colon c = omega (arith, line-to (c .before) .on)
 
+-- it ends in the window
 part-has-colon-end : tie.Need-part-has-colon-end
 part-has-colon-end c = line-to (c .before) .within
 
@@ -39,15 +41,19 @@ add-t19 c =
     let pre = start (c .before .before .before .before) .pre in
     omega (arith, pre .0, pre .1)
 
+-- its literal begins here, on no level
 head-requires : tie.Need-head-requires
 head-requires c κs =
     let pre = start (c .before .before .before .before .before .before .before) .pre in
     (pre .0, pre .1, omega arith, pre .2, begins-here _ _)
 
+-- the header is read
 returns : tie.Need-returns
 returns c =
-    let tested = c .before .before .before .before .before .before .before .before in
-    let headed = rw (c .before .before .before .before .before .before .before .unheard .ensures) at (c .before .before .before .before .head .ensures) in
+    let read = c .before .before .before .before in
+    let begun = read .before .before .before in
+    let tested = begun .before in
+    let headed = rw (begun .unheard .ensures) at (read .head .ensures) in
     offered-head (line-to (tested .before .before .before .before)) (sym (tested .before .has-colon .ensures) ∙ tested .if1 .taken) headed
 
 -- ---- none: a command
@@ -56,12 +62,14 @@ commands-requires c κs =
     let pre = start (c .before .before .before .before .before) .pre in
     (pre .0, pre .1)
 
+-- it is read as one
 returns-3 : tie.Need-returns-3
 returns-3 c =
-    let tested = c .before .before .before .before in
+    let called = c .before .before in
+    let tested = called .before .before in
     let line = tested .before .before .before .before in
     offered-command (line-to line) (sym (tested .before .has-colon .ensures) ∙ tested .if1 .left) (start line .pre .2)
-    (c .before .before .commands .ensures (start line .args .kept .now))
+    (called .commands .ensures (start line .args .kept .now))
 
 pub offered-spec : {M : Type 1} → statement M
 offered-spec =
