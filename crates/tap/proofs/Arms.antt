@@ -3,7 +3,7 @@
 use mathlib.Core.Path.{_≡_, refl, sym, _∙_}
 use mathlib.Core.Bool.{Bool, true, false, _||_}
 use mathlib.Core.List.{List, [], _∷_}
-use mathlib.Core.Logic.{_⊎_, inl, inr}
+use mathlib.Core.Logic.{inl, inr}
 use Prim.Native.Nat.{ℕ}
 use native.Mathlib.Omega.{arith}
 use lib.Dec.{eqb}
@@ -42,7 +42,10 @@ none : (ks : List ℕ) (x : ℕ) → member ks x ≡ false → OneOf ks x → �
 none ks x n h = let e : true ≡ false = sym (key-in ks x h) ∙ n in let z : _≡_ {A = ℕ} 0 1 = cc in omega arith
 
 -- ---- phases that are not over
-pub reads-on : (ph : Phase) → OneOf (0 ∷ 1 ∷ 2 ∷ 3 ∷ 4 ∷ 5 ∷ 6 ∷ 7 ∷ 8 ∷ 9 ∷ 10 ∷ 11 ∷ 12 ∷ 13 ∷ 14 ∷ 15 ∷ 16 ∷ 17 ∷ 18 ∷ 19 ∷ 20 ∷ []) (tagOf the-type ph) → (k : List ℕ) → false ≡ over (stateOf k ph)
+abbrev pub reading : List ℕ
+reading = 0 ∷ 1 ∷ 2 ∷ 3 ∷ 4 ∷ 5 ∷ 6 ∷ 7 ∷ 8 ∷ 9 ∷ 10 ∷ 11 ∷ 12 ∷ 13 ∷ 14 ∷ 15 ∷ 16 ∷ 17 ∷ 18 ∷ 19 ∷ 20 ∷ []
+
+pub reads-on : (ph : Phase) → OneOf reading (tagOf the-type ph) → (k : List ℕ) → false ≡ over (stateOf k ph)
 unfolding member stateOf over
 reads-on is.Hello h k = refl
 reads-on is.Second h k = refl
@@ -65,10 +68,14 @@ reads-on (is.Content m e i from here) h k = refl
 reads-on (is.Between m i) h k = refl
 reads-on (is.Skipping m i) h k = refl
 reads-on (is.Resting m i n) h k = refl
-reads-on (is.Over r p) h k = absurd (none (0 ∷ 1 ∷ 2 ∷ 3 ∷ 4 ∷ 5 ∷ 6 ∷ 7 ∷ 8 ∷ 9 ∷ 10 ∷ 11 ∷ 12 ∷ 13 ∷ 14 ∷ 15 ∷ 16 ∷ 17 ∷ 18 ∷ 19 ∷ 20 ∷ []) 21 refl h)
+reads-on (is.Over r p) h k = absurd (none reading 21 refl h)
 
 -- ---- and of those, the ones whose read is taken whole: incomplete where it begins
-pub waits-here : (ph : Phase) → OneOf (0 ∷ 1 ∷ 2 ∷ 3 ∷ 4 ∷ 5 ∷ 6 ∷ 7 ∷ 8 ∷ 9 ∷ 10 ∷ 11 ∷ 12 ∷ 13 ∷ 16 ∷ 18 ∷ 19 ∷ 20 ∷ []) (tagOf the-type ph) → (at : ℕ) (log : Log) (k u : List ℕ) → final u Incomplete at (log .count) ≡ said (record { stand = stateOf k ph; at = at; log = log }) u
+abbrev pub whole : List ℕ
+whole = 0 ∷ 1 ∷ 2 ∷ 3 ∷ 4 ∷ 5 ∷ 6 ∷ 7 ∷ 8 ∷ 9 ∷ 10 ∷ 11 ∷ 12 ∷ 13 ∷ 16 ∷ 18 ∷ 19 ∷ 20 ∷ []
+
+pub waits-here : (ph : Phase) → OneOf whole (tagOf the-type ph) → (at : ℕ) (log : Log) (k u : List ℕ)
+    → final u Incomplete at (log .count) ≡ said (record { stand = stateOf k ph; at = at; log = log }) u
 unfolding member stateOf said standResult standPlace resultOf placeOf
 waits-here is.Hello h at log k u = refl
 waits-here is.Second h at log k u = refl
@@ -84,17 +91,20 @@ waits-here (is.Offered size) h at log k u = refl
 waits-here is.Closing h at log k u = refl
 waits-here (is.Head m x i) h at log k u = refl
 waits-here (is.Text m e) h at log k u = refl
-waits-here (is.Literal e from left) h at log k u = absurd (none (0 ∷ 1 ∷ 2 ∷ 3 ∷ 4 ∷ 5 ∷ 6 ∷ 7 ∷ 8 ∷ 9 ∷ 10 ∷ 11 ∷ 12 ∷ 13 ∷ 16 ∷ 18 ∷ 19 ∷ 20 ∷ []) 14 refl h)
-waits-here (is.Preamble m i from here) h at log k u = absurd (none (0 ∷ 1 ∷ 2 ∷ 3 ∷ 4 ∷ 5 ∷ 6 ∷ 7 ∷ 8 ∷ 9 ∷ 10 ∷ 11 ∷ 12 ∷ 13 ∷ 16 ∷ 18 ∷ 19 ∷ 20 ∷ []) 15 refl h)
+waits-here (is.Literal e from left) h at log k u = absurd (none whole 14 refl h)
+waits-here (is.Preamble m i from here) h at log k u = absurd (none whole 15 refl h)
 waits-here (is.Opened m i) h at log k u = refl
-waits-here (is.Content m e i from here) h at log k u = absurd (none (0 ∷ 1 ∷ 2 ∷ 3 ∷ 4 ∷ 5 ∷ 6 ∷ 7 ∷ 8 ∷ 9 ∷ 10 ∷ 11 ∷ 12 ∷ 13 ∷ 16 ∷ 18 ∷ 19 ∷ 20 ∷ []) 17 refl h)
+waits-here (is.Content m e i from here) h at log k u = absurd (none whole 17 refl h)
 waits-here (is.Between m i) h at log k u = refl
 waits-here (is.Skipping m i) h at log k u = refl
 waits-here (is.Resting m i n) h at log k u = refl
-waits-here (is.Over r p) h at log k u = absurd (none (0 ∷ 1 ∷ 2 ∷ 3 ∷ 4 ∷ 5 ∷ 6 ∷ 7 ∷ 8 ∷ 9 ∷ 10 ∷ 11 ∷ 12 ∷ 13 ∷ 16 ∷ 18 ∷ 19 ∷ 20 ∷ []) 21 refl h)
+waits-here (is.Over r p) h at log k u = absurd (none whole 21 refl h)
 
 -- ---- phases that hold no number
-pub holds-none : (ph : Phase) → OneOf (0 ∷ 1 ∷ 2 ∷ 3 ∷ 4 ∷ 5 ∷ 6 ∷ 7 ∷ 8 ∷ 9 ∷ 10 ∷ 11 ∷ 13 ∷ 21 ∷ []) (tagOf the-type ph) → (at : ℕ) → true ≡ fitsBy ph at
+abbrev pub numberless : List ℕ
+numberless = 0 ∷ 1 ∷ 2 ∷ 3 ∷ 4 ∷ 5 ∷ 6 ∷ 7 ∷ 8 ∷ 9 ∷ 10 ∷ 11 ∷ 13 ∷ 21 ∷ []
+
+pub holds-none : (ph : Phase) → OneOf numberless (tagOf the-type ph) → (at : ℕ) → true ≡ fitsBy ph at
 unfolding member fitsBy
 holds-none is.Hello h at = refl
 holds-none is.Second h at = refl
@@ -108,15 +118,15 @@ holds-none is.Status h at = refl
 holds-none is.Command h at = refl
 holds-none (is.Offered size) h at = refl
 holds-none is.Closing h at = refl
-holds-none (is.Head m x i) h at = absurd (none (0 ∷ 1 ∷ 2 ∷ 3 ∷ 4 ∷ 5 ∷ 6 ∷ 7 ∷ 8 ∷ 9 ∷ 10 ∷ 11 ∷ 13 ∷ 21 ∷ []) 12 refl h)
+holds-none (is.Head m x i) h at = absurd (none numberless 12 refl h)
 holds-none (is.Text m e) h at = refl
-holds-none (is.Literal e from left) h at = absurd (none (0 ∷ 1 ∷ 2 ∷ 3 ∷ 4 ∷ 5 ∷ 6 ∷ 7 ∷ 8 ∷ 9 ∷ 10 ∷ 11 ∷ 13 ∷ 21 ∷ []) 14 refl h)
-holds-none (is.Preamble m i from here) h at = absurd (none (0 ∷ 1 ∷ 2 ∷ 3 ∷ 4 ∷ 5 ∷ 6 ∷ 7 ∷ 8 ∷ 9 ∷ 10 ∷ 11 ∷ 13 ∷ 21 ∷ []) 15 refl h)
-holds-none (is.Opened m i) h at = absurd (none (0 ∷ 1 ∷ 2 ∷ 3 ∷ 4 ∷ 5 ∷ 6 ∷ 7 ∷ 8 ∷ 9 ∷ 10 ∷ 11 ∷ 13 ∷ 21 ∷ []) 16 refl h)
-holds-none (is.Content m e i from here) h at = absurd (none (0 ∷ 1 ∷ 2 ∷ 3 ∷ 4 ∷ 5 ∷ 6 ∷ 7 ∷ 8 ∷ 9 ∷ 10 ∷ 11 ∷ 13 ∷ 21 ∷ []) 17 refl h)
-holds-none (is.Between m i) h at = absurd (none (0 ∷ 1 ∷ 2 ∷ 3 ∷ 4 ∷ 5 ∷ 6 ∷ 7 ∷ 8 ∷ 9 ∷ 10 ∷ 11 ∷ 13 ∷ 21 ∷ []) 18 refl h)
-holds-none (is.Skipping m i) h at = absurd (none (0 ∷ 1 ∷ 2 ∷ 3 ∷ 4 ∷ 5 ∷ 6 ∷ 7 ∷ 8 ∷ 9 ∷ 10 ∷ 11 ∷ 13 ∷ 21 ∷ []) 19 refl h)
-holds-none (is.Resting m i n) h at = absurd (none (0 ∷ 1 ∷ 2 ∷ 3 ∷ 4 ∷ 5 ∷ 6 ∷ 7 ∷ 8 ∷ 9 ∷ 10 ∷ 11 ∷ 13 ∷ 21 ∷ []) 20 refl h)
+holds-none (is.Literal e from left) h at = absurd (none numberless 14 refl h)
+holds-none (is.Preamble m i from here) h at = absurd (none numberless 15 refl h)
+holds-none (is.Opened m i) h at = absurd (none numberless 16 refl h)
+holds-none (is.Content m e i from here) h at = absurd (none numberless 17 refl h)
+holds-none (is.Between m i) h at = absurd (none numberless 18 refl h)
+holds-none (is.Skipping m i) h at = absurd (none numberless 19 refl h)
+holds-none (is.Resting m i n) h at = absurd (none numberless 20 refl h)
 holds-none (is.Over r p) h at = refl
 
 -- ---- mails without a literal

@@ -1,19 +1,16 @@
 -- The test of a record, and a window shown to any record.
 -- Assumes nothing.
-use mathlib.Core.Path.{_≡_, refl, sym, ap, _∙_}
-use mathlib.Core.Bool.{Bool, true, false, cond, _&&_}
+use mathlib.Core.Path.{_≡_, refl, sym, _∙_}
+use mathlib.Core.Bool.{true, false, _&&_}
 use mathlib.Core.List.{List}
 use Prim.Native.Nat.{ℕ, zero, suc, _+_, _-_, _*_, _≤_, _<_}
 use native.Mathlib.Omega.{arith}
-use lib.Dec.{eqb, ltb, leb}
+use lib.Dec.{eqb, leb}
 use lib.ListN.{length, getD, replicate}
 use borrow.Author.Tests.{lt-ltb, le-ltb, le-leb, lt-leb, leb-true, eqb-true, eqb-false}
-use Rattle.events.specs.Table.{Final, final, finalOf, noEvents}
-use Rattle.events.specs.declared.Answer.{Answer}
-use Rattle.events.specs.declared.Log.{Log}
-use Rattle.events.specs.declared.Outcome.{Outcome}
-use Rattle.events.specs.declared.Outcome.the-variants.{Incomplete, TooLong}
-use Rattle.phases.specs.Phasing.{Slots, stateOf, Fits, Goes, Ready, Went, spotOf}
+use Rattle.events.specs.Table.{noEvents}
+use Rattle.events.specs.declared.Outcome.the-variants.{TooLong}
+use Rattle.phases.specs.Phasing.{stateOf, Fits, Ready, Went, spotOf}
 use Rattle.phases.specs.declared.Phase.{Phase}
 use Rattle.phases.specs.declared.Phase.the-variants as is
 use Rattle.phases.specs.declared.Spot.{Spot}
@@ -21,16 +18,15 @@ use Rattle.reading.proofs.Places.{by-test}
 use Rattle.reading.proofs.Words.{both-true}
 use Rattle.reads.proofs.Laws.{begun-smtp, begun-pop3}
 use Rattle.reads.specs.Contracts.{Begins}
-use Rattle.rules.specs.Phases.{reads, ends}
-use Rattle.rules.specs.Sessions.{limit, resultOf, placeOf}
+use Rattle.rules.specs.Sessions.{limit}
 use Rattle.rules.specs.declared.Entry.{Entry}
 use Rattle.rules.specs.declared.Entry.the-variants.{SmtpClient, SmtpServer, Pop3Server, ImapClient}
 use Rattle.rules.specs.declared.Mail.{Mail}
 use Rattle.rules.specs.declared.Mail.the-variants.{Smtp, Pop3, Imap}
 use Rattle.windows.proofs.Taken as takes
-use Rattle.windows.specs.Stands.{Stand, fresh, enters, standResult, standPlace}
-use Rattle.windows.specs.Windows.{Record, over, said, refused, lands, window, taken}
-use Rattle.tap.specs.Tapping.{recordOf, begunBy, fitsBy, shortTo, isSound, startsAt, Begun, Read, Answers, waitingAt}
+use Rattle.windows.specs.Stands.{enters}
+use Rattle.windows.specs.Windows.{over, refused, window, taken}
+use Rattle.tap.specs.Tapping.{recordOf, begunBy, fitsBy, shortTo, isSound, startsAt, Begun, Read, Answers}
 use Rattle.tap.specs.declared.Session.{Session}
 use Rattle.tap.specs.declared.Shown.{Shown}
 

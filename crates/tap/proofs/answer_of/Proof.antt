@@ -13,15 +13,17 @@ returns : tie.Need-returns
 unfolding stateOf said standResult standPlace resultOf placeOf
 returns c = λ k u. rw (c .before .phase .given .1)
 
--- a literal, a preamble and a content: where they began
+-- a literal: where it began
 returns-2 : tie.Need-returns-2
 unfolding stateOf said standResult standPlace
 returns-2 c = λ k u. rw (c .before .before .phase2 .given .1, c .waiting .ensures)
 
+-- a preamble: where it began
 returns-3 : tie.Need-returns-3
 unfolding stateOf said standResult standPlace
 returns-3 c = λ k u. rw (c .before .before .phase3 .given .1, c .waiting2 .ensures)
 
+-- a part's content: where it began
 returns-4 : tie.Need-returns-4
 unfolding stateOf said standResult standPlace
 returns-4 c = λ k u. rw (c .before .before .phase4 .given .1, c .waiting3 .ensures)

@@ -4,6 +4,7 @@ use borrow.Author.Needs.{needs}
 use Rattle.tap.proofs.answered.Statement.{statement}
 use Rattle.tap.proofs.answered.Tie as tie
 
+-- the spot as a record, and what it answers
 returns : tie.Need-returns
 returns c = record { session = refl; answer = λ u. c .answer-of .ensures _ u; taken = refl }
 

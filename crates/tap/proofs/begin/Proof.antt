@@ -5,6 +5,7 @@ use borrow.Author.Needs.{needs}
 use Rattle.tap.proofs.begin.Statement.{statement}
 use Rattle.tap.proofs.begin.Tie as tie
 
+-- the first phase, nothing taken, nothing listed, no boundary open
 returns : tie.Need-returns
 returns c = begun-so (c .before .args .entry) (c .first-phase .ensures) refl refl (zeros 648)
 

@@ -1,5 +1,4 @@
 -- `tap::begun_by` meets its contract, by whose mail it is. Assumes nothing.
-use mathlib.Core.Path.{sym}
 use Rattle.tap.specs.Tapping.{begunBy}
 use Rattle.tap.proofs.Arms.{no-literal}
 use borrow.Author.Needs.{needs}

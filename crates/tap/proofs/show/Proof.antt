@@ -1,7 +1,14 @@
 -- `tap::show` meets its contract: no session, an end, past the limit, or a window that is read. Assumes nothing.
-use mathlib.Core.Path.{refl, sym, _∙_}
+use mathlib.Core.Path.{_≡_, refl, sym, _∙_}
+use mathlib.Core.Bool.{true, false}
+use Prim.Native.Nat.{_+_, _≤_}
 use native.Mathlib.Omega.{arith}
+use lib.ListN.{length}
 use borrow.Author.Tests.{not-true, not-false}
+use Rattle.phases.specs.Phasing.{stateOf}
+use Rattle.rules.specs.Sessions.{limit}
+use Rattle.windows.specs.Windows.{over}
+use Rattle.tap.specs.Tapping.{isSound}
 use Rattle.tap.proofs.Sounds.{within-limit, sound-ready, shows-over, shows-long, shows-read}
 use borrow.Author.Needs.{needs}
 use Rattle.tap.proofs.show.Statement.{statement}
@@ -9,56 +16,92 @@ use Rattle.tap.proofs.show.Tie as tie
 
 -- no session
 returns : tie.Need-returns
-returns c = rw (sym (c .before .before .sound .ensures) ∙ not-true _ (c .before .if1 .taken)) (record { is = c .no-session .ensures .is; table = refl })
+returns c =
+    let unsound = c .before in
+    rw (sym (unsound .before .sound .ensures) ∙ not-true _ (unsound .if1 .taken)) (record { is = c .no-session .ensures .is; table = refl })
 
+-- ---- a session
+abbrev start : tie.Else1 → tie.Start
+start c = c .before .before .before .before .before .before .before
+
+sound : (c : tie.Else1) → isSound (start c .args .session) ≡ true
+sound c = sym (c .before .sound .ensures) ∙ not-false _ (c .if1 .left)
+
+-- it has taken no more than the limit
+at-most : (c : tie.Else1) → start c .args .session .at ≤ limit
+at-most c = within-limit (start c .args .session) (sound c)
+
+-- its copies have the length of nine slots
+long : (c : tie.Else1) → length (c .before .before .before .before .before .before .before .args .session .boundaries) ≡ 648
+long c = search needs
+
+-- it is over: nothing more is taken
 answered-requires : tie.Need-answered-requires
-answered-requires c κs =
-    let ok = sym (c .before .before .before .sound .ensures) ∙ not-false _ (c .before .before .if1 .left) in
-    omega (arith, within-limit (c .before .before .before .before .before .before .before .before .before .args .session) ok)
+answered-requires c κs = omega (arith, at-most (c .before .before))
 
--- it is over
+-- and the answer is as it was
 returns-2 : tie.Need-returns-2
 returns-2 c =
-    let ok = sym (c .before .before .before .before .sound .ensures) ∙ not-false _ (c .before .before .before .if1 .left) in
-    let s = c .before .before .before .before .before .before .before .before .before .before .args .session in
-    rw ok (shows-over s ok (sym (c .before .before .is-over .ensures (s .boundaries)) ∙ c .before .if2 .taken) (c .answered .ensures))
+    let asked = c .before .before in
+    let session = asked .before in
+    let s = start session .args .session in
+    let ok = sound session in
+    rw ok (shows-over s ok (sym (asked .is-over .ensures (s .boundaries)) ∙ c .before .if2 .taken) (c .answered .ensures))
 
+-- ---- it reads on
+abbrev session-of : tie.Else2 → tie.Else1
+session-of c = c .before .before
+
+reads-on : (c : tie.Else2) →
+    let s = start (session-of c) .args .session in
+    over (stateOf (s .boundaries) (s .phase)) ≡ false
+reads-on c = sym (c .before .is-over .ensures (start (session-of c) .args .session .boundaries)) ∙ c .if2 .left
+
+-- how much is left up to the limit
 sub-if3 : tie.Need-sub-if3
-sub-if3 c =
-    let ok = sym (c .before .before .before .sound .ensures) ∙ not-false _ (c .before .before .if1 .left) in
-    omega (arith, within-limit (c .before .before .before .before .before .before .before .before .before .args .session) ok)
+sub-if3 c = omega (arith, at-most (session-of c))
 
+-- past the limit: nothing is taken
 answered-requires-2 : tie.Need-answered-requires-2
-answered-requires-2 c κs =
-    let ok = sym (c .before .before .before .before .sound .ensures) ∙ not-false _ (c .before .before .before .if1 .left) in
-    omega (arith, within-limit (c .before .before .before .before .before .before .before .before .before .before .args .session) ok)
+answered-requires-2 c κs = omega (arith, at-most (session-of (c .before)))
 
--- past the limit
+-- and the session is over
 returns-3 : tie.Need-returns-3
 returns-3 c =
-    let ok = sym (c .before .before .before .before .before .sound .ensures) ∙ not-false _ (c .before .before .before .before .if1 .left) in
-    let s = c .before .before .before .before .before .before .before .before .before .before .before .args .session in
-    let reads = sym (c .before .before .before .is-over .ensures (s .boundaries)) ∙ c .before .before .if2 .left in
-    rw ok (shows-long s ok reads (omega (arith, c .before .if3 .taken, within-limit s ok)) (c .answered2 .ensures))
+    let past = c .before in
+    let session = session-of (past .before) in
+    let s = start session .args .session in
+    let ok = sound session in
+    rw ok (shows-long s ok (reads-on (past .before)) (omega (arith, past .if3 .taken, at-most session)) (c .answered2 .ensures))
 
+-- ---- a window that is read
+fits : (c : tie.Else3) →
+    let a = start (session-of (c .before)) .args in
+    a .session .at + length (a .w .now) ≤ limit
+fits c = omega (arith, c .if3 .left, at-most (session-of (c .before)))
+
+-- it ends before the limit, and the record is one to go on from
 advance-requires : tie.Need-advance-requires
 advance-requires c κs =
-    let ok = sym (c .before .before .before .before .before .before .sound .ensures) ∙ not-false _ (c .before .before .before .before .before .if1 .left) in
-    let s = c .before .before .before .before .before .before .before .before .before .before .before .before .args .session in
-    (omega (arith, c .before .before .if3 .left, within-limit s ok), sound-ready s ok (search needs))
+    let read = c .before .before in
+    let session = session-of (read .before) in
+    (fits read, sound-ready (start session .args .session) (sound session) (long session))
 
+-- what is taken lies in the window
 answered-requires-3 : tie.Need-answered-requires-3
 answered-requires-3 c κs =
-    let ok = sym (c .before .before .before .before .before .before .before .before .before .before .sound .ensures) ∙ not-false _ (c .before .before .before .before .before .before .before .before .before .if1 .left) in
-    omega (arith, c .before .before .before .before .before .before .if3 .left, within-limit (c .before .before .before .before .before .before .before .before .before .before .before .before .before .before .before .before .args .session) ok, c .before .before .before .advance .ensures .is .within)
+    let advanced = c .before .before .before in
+    omega (arith, fits (advanced .before .before .before), advanced .advance .ensures .is .within)
 
--- it is read
+-- the session goes on, or is over
 returns-4 : tie.Need-returns-4
 returns-4 c =
-    let ok = sym (c .before .before .before .before .before .before .before .before .before .before .before .sound .ensures) ∙ not-false _ (c .before .before .before .before .before .before .before .before .before .before .if1 .left) in
-    let s = c .before .before .before .before .before .before .before .before .before .before .before .before .before .before .before .before .before .args .session in
-    let reads = sym (c .before .before .before .before .before .before .before .before .before .is-over .ensures (s .boundaries)) ∙ c .before .before .before .before .before .before .before .before .if2 .left in
-    rw ok (shows-read s ok reads (omega (arith, c .before .before .before .before .before .before .before .if3 .left, within-limit s ok)) (c .before .before .before .before .advance .ensures) (c .answered3 .ensures))
+    let advanced = c .before .before .before .before in
+    let read = advanced .before .before .before in
+    let session = session-of (read .before) in
+    let s = start session .args .session in
+    let ok = sound session in
+    rw ok (shows-read s ok (reads-on (read .before)) (fits read) (advanced .advance .ensures) (c .answered3 .ensures))
 
 pub show-spec : {M : Type 1} → statement M
 show-spec =
