@@ -28,26 +28,8 @@ use Rattle.windows.proofs.Firm.{Firm}
 use Rattle.windows.proofs.Runs as runs
 use Rattle.windows.proofs.Taken.{repeats}
 use Rattle.windows.specs.Stands.{Stand, enter, enters, takes, does, pieces, standResult, standPlace}
-use Rattle.windows.specs.Windows.{Record, said, over, Shown, landed, lands, window, taken, Tap, tapped, shows, showsAll, lastly}
-
--- ---- what the caller sees of windows one after another: of each what was said then, with the table, and how many bytes it took
-pub record Answered : Type 0 where
-  pub answer : Final
-  pub took : ℕ
-
-abbrev pub answered : Record → Shown → Answered
-answered r g = record { answer = said (g .next) (g .table); took = taken r g }
-
-unfoldable pub answers : Tap → List (List ℕ) → List Answered
-answers x [] = []
-answers x (w ∷ ws) = answered (x .session) (window (x .session) (x .table) (x .untaken ++ w)) ∷ answers (shows x w) ws
-
--- cut alike: as many windows, and each as long
-unfoldable pub CutAlike : List (List ℕ) → List (List ℕ) → Type 0
-CutAlike [] [] = Unit {0}
-CutAlike [] (v ∷ vs) = ⊥
-CutAlike (w ∷ ws) [] = ⊥
-CutAlike (w ∷ ws) (v ∷ vs) = (length v ≡ length w) × CutAlike ws vs
+use Rattle.windows.specs.Windows.{Record, over, Shown, landed, lands, window, Tap, tapped, shows, showsAll, lastly}
+use Rattle.windows.specs.Windows.{Answered, answered, answers, CutAlike}
 
 -- ---- a window's answer hangs on how long it is, and on what its run lists and comes to
 landed-alike : (base : ℕ) (a b : Ran Stand) → Alike a b → (x : Poured) → landed base a x ≡ landed base b x

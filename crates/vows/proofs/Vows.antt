@@ -1,0 +1,141 @@
+-- Request W2's promises for `begin` and `show`, at the level of their contracts: any run of the code.
+-- Assumes nothing.
+use mathlib.Core.Path.{_≡_, refl, sym, ap, _∙_}
+use mathlib.Core.Bool.{true}
+use mathlib.Core.List.{List, [], _∷_, _++_, map, flatten}
+use Prim.Native.Nat.{ℕ, _≤_}
+use native.Mathlib.Omega.{arith}
+use lib.ListN.{length, drop}
+use Rattle.events.specs.Events.{resultNumber}
+use Rattle.events.specs.Table.{Final, finalOf, slots}
+use Rattle.events.specs.declared.Outcome.the-variants.{LongBoundary}
+use Rattle.promises.proofs.Determined.{entries}
+use Rattle.promises.specs.Promises.{Exit, Owes, Untouched}
+use Rattle.rules.specs.Secrecy.{Replaced, eventsOf}
+use Rattle.rules.specs.Sessions.{limit, startOf, answerOf}
+use Rattle.rules.specs.declared.Entry.{Entry}
+use Rattle.tap.specs.Tapping.{isSound, recordOf, Read}
+use Rattle.windows.proofs.Counting as counts
+use Rattle.windows.proofs.Cut as cut
+use Rattle.windows.proofs.Keeping as keeping
+use Rattle.windows.proofs.Secrecy as secret
+use Rattle.windows.specs.Windows as windows
+use Rattle.windows.specs.Windows.{said, window, taken, Tap, tapped, shows, showsAll, lastly, Answered, answered, answers, CutAlike}
+use Rattle.vows.specs.Vows.{Call, exitOf, answeredOf, Tapped, tapOf, windowOf, after, Calls, none, call, Run, Last, lone, later, windowEvents}
+use Rattle.vows.proofs.Takes.{read}
+
+-- ---- a call does what the definition says of its window
+called : (x : Tapped) (w : List ℕ) (c : Call) → Read (x .session) (windowOf x w) (x .table) (c .gives) (c .table)
+    → (tapOf (after x w c) ≡ shows (tapOf x) w)
+    × (answeredOf c ≡ answered (recordOf (x .session)) (window (recordOf (x .session)) (x .table) (windowOf x w)))
+unfolding shows
+called x w c d =
+    let v = windowOf x w in
+    let n = taken (recordOf (x .session)) (window (recordOf (x .session)) (x .table) v) in (
+      rw (d .taken) (ap {B = Tap} (λ (g : windows.Shown). record { session = g .next; table = g .table; untaken = drop n v }) (d .is)),
+      rw (d .answer, d .taken) (ap {B = Answered} (λ (g : windows.Shown). record { answer = said (g .next) (g .table); took = n }) (d .is)),
+    )
+
+-- ---- calls one after another
+record AsShown (x y : Tapped) (ws : List (List ℕ)) (cs : List Call) : Type 0 where
+  tap : tapOf y ≡ showsAll (tapOf x) ws
+  told : map answeredOf cs ≡ answers (tapOf x) ws
+  sound : isSound (y .session) ≡ true
+
+calls-shown : {x y : Tapped} {ws : List (List ℕ)} {cs : List Call} → isSound (x .session) ≡ true → Calls x ws cs y → AsShown x y ws cs
+unfolding showsAll answers
+calls-shown ok none = record { tap = refl; told = refl; sound = ok }
+calls-shown {x} {y} ok (call {ws = ws} {cs = cs} w c h more) =
+    let d = read (x .session) (windowOf x w) (x .table) (c .gives) (c .table) ok h in
+    let one = called x w c d in
+    let rest = calls-shown (d .sound) more in
+    record {
+      tap = rest .tap ∙ ap (λ (p : Tap). showsAll p ws) (one .0);
+      told = ap (λ (behind : List Answered). answeredOf c ∷ behind) (rest .told ∙ ap (λ (p : Tap). answers p ws) (one .0))
+          ∙ ap (λ (a : Answered). a ∷ answers (shows (tapOf x) w) ws) (one .1);
+      sound = rest .sound;
+    }
+
+-- the last exit's answer is the definition's
+last-told : (ws : List (List ℕ)) (p : Tap) {cs : List Call} {c : Call} → Last c cs → map answeredOf cs ≡ answers p ws
+    → finalOf (c .table) (c .gives .answer) ≡ lastly (showsAll p ws)
+unfolding showsAll answers shows
+last-told [] p lone h = cc
+last-told [] p (later l) h = cc
+last-told (w ∷ []) p {c = c} lone h =
+    let e : answeredOf c ≡ answered (p .session) (window (p .session) (p .table) (p .untaken ++ w)) = cc in
+    ap (λ (a : Answered). a .answer) e
+last-told (w ∷ (v ∷ ws)) p lone h = cc
+last-told (w ∷ ws) p (later l) h = last-told ws (shows p w) l cc
+
+exitIn : Final → Exit
+exitIn f = record { table = f .table; answer = record { result = f .result; place = f .place; count = f .count } }
+
+-- the definition's tap of a session that is begun
+abbrev start : Entry → List ℕ → Tap
+start e t = tapped (startOf e) t
+
+module _ {e : Entry} {t : List ℕ} {ws : List (List ℕ)} {cs : List Call} {x : Tapped} (r : Run e t ws cs x) where
+  -- ---- any run stands where the definition's does: the session's record, the table and the untaken bytes are the definition's, and so is every answer
+  -- with its table and the number of bytes taken; and the session is one, so that no window is answered as to no session
+  pub as-shown : (tapOf x ≡ showsAll (start e t) ws) × (map answeredOf cs ≡ answers (start e t) ws) × (isSound (x .session) ≡ true)
+  as-shown =
+      let g = calls-shown (r .begun .sound) (r .calls) in
+      let z : tapOf (record { session = r .session; table = t; untaken = [] }) ≡ start e t = rw (r .begun .is) refl in
+      (g .tap ∙ ap (λ (p : Tap). showsAll p ws) z, g .told ∙ ap (λ (p : Tap). answers p ws) z, g .sound)
+
+  -- ---- the last window, whose exit is c
+  module _ {c : Call} (last : Last c cs) where
+    last-is : finalOf (c .table) (c .gives .answer) ≡ lastly (showsAll (start e t) ws)
+    last-is = last-told ws (start e t) last (as-shown .1)
+
+    -- up to the limit, the bytes cut anyhow: unless the last answer is 12, the last exit meets the contract of the entry that reads them at once
+    pub as-one-call : length (flatten ws) ≤ limit → (c .gives .answer .result ≡ LongBoundary → ⊥) → Owes e t (flatten ws) (exitOf c)
+    as-one-call within h =
+        let q : c .gives .answer .result ≡ lastly (showsAll (start e t) ws) .result = ap (λ (f : Final). f .result) last-is in
+        record { is = last-is ∙ cut.as-one-call e t ws within (rw q at h) }
+
+    -- so that it is any exit of that entry: table, result, place and count
+    pub as-the-entry : length (flatten ws) ≤ limit → (c .gives .answer .result ≡ LongBoundary → ⊥) → (y : Exit) → Owes e t (flatten ws) y → exitOf c ≡ y
+    as-the-entry within h y owes = entries e t (flatten ws) (exitOf c) y (as-one-call within h) owes
+
+    -- ---- demand 1: every number of the table past the events is untouched, and so is the table's length
+    pub untouched : Untouched t (exitOf c)
+    untouched =
+        let k = keeping.keeps-all (start e t) ws in
+        record {
+          long = ap (λ (f : Final). length (f .table)) last-is ∙ k .long;
+          behind = rw (ap (λ (f : Final). f .table) last-is, ap (λ (f : Final). f .count) last-is) (k .behind);
+        }
+
+    -- ---- the event count never exceeds the number of bytes shown
+    pub count-bound : c .gives .answer .count ≤ length (flatten ws)
+    count-bound = rw (ap (λ (f : Final). f .count) last-is) (counts.count-bound e t ws)
+
+    -- so that a slot per byte always suffices: refusal 10 is never given
+    pub slots-suffice : length (flatten ws) ≤ slots t → resultNumber (c .gives .answer .result) ≡ 10 → ⊥
+    slots-suffice g ten = counts.slots-suffice e t ws g (rw (ap (λ (f : Final). f .result) last-is) at ten)
+
+-- ---- two ways to cut the same bytes, up to the limit: the last exits are identical, 12 or not
+pub cut-alike : {e : Entry} {t : List ℕ} {ws vs : List (List ℕ)} {cs ds : List Call} {c d : Call} {x y : Tapped}
+    → Run e t ws cs x → Run e t vs ds y → Last c cs → Last d ds → flatten vs ≡ flatten ws → length (flatten ws) ≤ limit → exitOf d ≡ exitOf c
+unfolding exitIn
+cut-alike {e} {t} {ws} {vs} r q c d same within = ap exitIn (last-is q d ∙ cut.cut-alike e t vs ws same within ∙ sym (last-is r c))
+
+-- ---- two runs that are shown the same windows agree in all that the caller sees, and in all that a later window depends on
+pub determined : {e : Entry} {t : List ℕ} {ws : List (List ℕ)} {cs ds : List Call} {x y : Tapped} → Run e t ws cs x → Run e t ws ds y
+    → (map answeredOf cs ≡ map answeredOf ds) × (tapOf x ≡ tapOf y)
+determined r q = let a = as-shown r in let b = as-shown q in (a .1 ∙ sym (b .1), a .0 ∙ sym (b .0))
+
+-- ---- demand 3: two runs cut alike; the second's bytes are the first's, replaced as far as is permitted
+module _ {e : Entry} {t : List ℕ} {ws vs : List (List ℕ)} {cs ds : List Call} {x y : Tapped}
+    (r : Run e t ws cs x) (q : Run e t vs ds y) (alike : CutAlike ws vs) where
+  -- inside any events that windows list of the session: then all windows have the same result, place, count and table, and take as many bytes
+  pub secrecy-of-all : Replaced (windowEvents e (flatten ws)) 0 (flatten ws) (flatten vs) → map answeredOf ds ≡ map answeredOf cs
+  unfolding windowEvents
+  secrecy-of-all w = as-shown q .1 ∙ secret.secrecy-by-windows e t ws vs alike w ∙ sym (as-shown r .1)
+
+  -- and inside the events that the last exit c lists
+  pub secrecy : {c : Call} → Last c cs → Replaced (eventsOf (finalOf (c .table) (c .gives .answer))) 0 (flatten ws) (flatten vs)
+      → map answeredOf ds ≡ map answeredOf cs
+  secrecy last w = as-shown q .1 ∙ secret.secrecy-of-listed e t ws vs alike (rw (last-is r last) at w) ∙ sym (as-shown r .1)

@@ -1,0 +1,1 @@
+// Promises over sessions by windows, request W2: theorems alone, no code. docs/THEOREMS.md says which demand each carries.
