@@ -1,2 +1,3 @@
+pub mod Never
 pub mod Takes
 pub mod Vows

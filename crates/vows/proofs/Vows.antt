@@ -22,6 +22,7 @@ use Rattle.windows.proofs.Secrecy as secret
 use Rattle.windows.specs.Windows as windows
 use Rattle.windows.specs.Windows.{said, window, taken, Tap, tapped, shows, showsAll, lastly, Answered, answered, answers, CutAlike}
 use Rattle.vows.specs.Vows.{Call, exitOf, answeredOf, Tapped, tapOf, windowOf, after, Calls, none, call, Run, Last, lone, later, windowEvents}
+use Rattle.vows.proofs.Never.{never-twenty}
 use Rattle.vows.proofs.Takes.{read}
 
 -- ---- a call does what the definition says of its window
@@ -77,7 +78,7 @@ start e t = tapped (startOf e) t
 
 module _ {e : Entry} {t : List ℕ} {ws : List (List ℕ)} {cs : List Call} {x : Tapped} (r : Run e t ws cs x) where
   -- ---- any run stands where the definition's does: the session's record, the table and the untaken bytes are the definition's, and so is every answer
-  -- with its table and the number of bytes taken; and the session is one, so that no window is answered as to no session
+  -- with its table and the number of bytes taken; and the session is one
   pub as-shown : (tapOf x ≡ showsAll (start e t) ws) × (map answeredOf cs ≡ answers (start e t) ws) × (isSound (x .session) ≡ true)
   as-shown =
       let g = calls-shown (r .begun .sound) (r .calls) in
@@ -98,6 +99,10 @@ module _ {e : Entry} {t : List ℕ} {ws : List (List ℕ)} {cs : List Call} {x :
     -- so that it is any exit of that entry: table, result, place and count
     pub as-the-entry : length (flatten ws) ≤ limit → (c .gives .answer .result ≡ LongBoundary → ⊥) → (y : Exit) → Owes e t (flatten ws) y → exitOf c ≡ y
     as-the-entry within h y owes = entries e t (flatten ws) (exitOf c) y (as-one-call within h) owes
+
+    -- ---- it is never answered as to no session
+    pub never-no-session : resultNumber (c .gives .answer .result) ≡ 20 → ⊥
+    never-no-session twenty = never-twenty e t ws (rw (ap (λ (f : Final). f .result) last-is) at twenty)
 
     -- ---- demand 1: every number of the table past the events is untouched, and so is the table's length
     pub untouched : Untouched t (exitOf c)
