@@ -20,7 +20,8 @@ use Rattle.windows.proofs.Cut as cut
 use Rattle.windows.proofs.Keeping as keeping
 use Rattle.windows.proofs.Secrecy as secret
 use Rattle.windows.specs.Windows as windows
-use Rattle.windows.specs.Windows.{said, window, taken, Tap, tapped, shows, showsAll, lastly, Answered, answered, answers, CutAlike}
+use Rattle.windows.specs.Windows.{said, window, taken, Tap, tapped, shows, showsAll, lastly}
+use Rattle.windows.specs.Traces.{Answered, answered, answers, CutAlike}
 use Rattle.vows.specs.Vows.{Call, exitOf, answeredOf, Tapped, tapOf, windowOf, after, Calls, none, call, Run, Last, lone, later, windowEvents}
 use Rattle.vows.proofs.Never.{never-twenty}
 use Rattle.vows.proofs.Takes.{read}

@@ -12,7 +12,8 @@ use Rattle.tap.specs.Tapping.{recordOf, Begun, Shows}
 use Rattle.tap.specs.declared.Session.{Session}
 use Rattle.tap.specs.declared.Shown.{Shown}
 use Rattle.windows.specs.Stands.{enters, pieces}
-use Rattle.windows.specs.Windows.{Tap, Answered}
+use Rattle.windows.specs.Traces.{Answered}
+use Rattle.windows.specs.Windows.{Tap}
 
 -- a call's exit of `show`: what it gives back, and the table then
 pub record Call : Type 0 where

@@ -29,7 +29,7 @@ use Rattle.windows.proofs.Runs as runs
 use Rattle.windows.proofs.Taken.{repeats}
 use Rattle.windows.specs.Stands.{Stand, enter, enters, takes, does, pieces, standResult, standPlace}
 use Rattle.windows.specs.Windows.{Record, over, Shown, landed, lands, window, Tap, tapped, shows, showsAll, lastly}
-use Rattle.windows.specs.Windows.{Answered, answered, answers, CutAlike}
+use Rattle.windows.specs.Traces.{Answered, answered, answers, CutAlike}
 
 -- ---- a window's answer hangs on how long it is, and on what its run lists and comes to
 landed-alike : (base : ℕ) (a b : Ran Stand) → Alike a b → (x : Poured) → landed base a x ≡ landed base b x

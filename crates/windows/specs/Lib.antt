@@ -1,3 +1,4 @@
 pub mod Pieces
 pub mod Stands
 pub mod Windows
+pub mod Traces

@@ -1,6 +1,5 @@
 -- Sessions by windows: request W2, in its order. The record between windows, what a window comes to, and windows one after another.
 -- Assumes nothing.
-use mathlib.Core.Path.{_≡_}
 use mathlib.Core.Bool.{Bool, true, false, cond, not, _||_}
 use mathlib.Core.List.{List, [], _∷_, _++_}
 use Prim.Native.Nat.{ℕ, _+_, _-_}
@@ -92,22 +91,3 @@ showsAll x (w ∷ ws) = showsAll (shows x w) ws
 -- what was answered last
 abbrev pub lastly : Tap → Final
 lastly x = said (x .session) (x .table)
-
--- ---- what the caller sees of windows one after another: of each what was said then, with the table, and how many bytes it took
-pub record Answered : Type 0 where
-  pub answer : Final
-  pub took : ℕ
-
-abbrev pub answered : Record → Shown → Answered
-answered r g = record { answer = said (g .next) (g .table); took = taken r g }
-
-unfoldable pub answers : Tap → List (List ℕ) → List Answered
-answers x [] = []
-answers x (w ∷ ws) = answered (x .session) (window (x .session) (x .table) (x .untaken ++ w)) ∷ answers (shows x w) ws
-
--- cut alike: as many windows, and each as long
-unfoldable pub CutAlike : List (List ℕ) → List (List ℕ) → Type 0
-CutAlike [] [] = Unit {0}
-CutAlike [] (v ∷ vs) = ⊥
-CutAlike (w ∷ ws) [] = ⊥
-CutAlike (w ∷ ws) (v ∷ vs) = (length v ≡ length w) × CutAlike ws vs
