@@ -1,3 +1,4 @@
+pub mod Calls
 pub mod Never
 pub mod Takes
 pub mod Vows

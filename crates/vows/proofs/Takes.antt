@@ -4,20 +4,19 @@ use mathlib.Core.Path.{_≡_, refl, sym, ap, _∙_}
 use mathlib.Core.Bool.{Bool, true, false}
 use mathlib.Core.List.{List, []}
 use Prim.Native.Nat.{ℕ, _+_, _≤_, _<_}
-use native.Mathlib.Omega.{arith}
 use lib.ListN.{length, drop}
 use borrow.Author.Tests.{ne-eqb}
 use Rattle.events.specs.Events.{resultNumber}
 use Rattle.events.specs.Table.{Final, final, finalOf}
 use Rattle.events.specs.declared.Answer.{Answer}
 use Rattle.events.specs.declared.Encoding.{Encoding}
-use Rattle.events.specs.declared.Outcome.the-variants.{TooLong, NoSession}
+use Rattle.events.specs.declared.Outcome.the-variants.{TooLong}
 use Rattle.reading.proofs.Places.{by-test}
 use Rattle.reading.specs.Reading.{aLine, short, fetch}
 use Rattle.rules.specs.Phases.{Phase, reads, ends, wants}
 use Rattle.rules.specs.Sessions.{limit, resultOf}
 use Rattle.rules.specs.declared.Mail.{Mail}
-use Rattle.tap.specs.Tapping.{recordOf, isSound, Read, Unread, ShowsIf, Shows}
+use Rattle.tap.specs.Tapping.{recordOf, isSound, Read, Unread, Shows}
 use Rattle.tap.specs.declared.Session.{Session}
 use Rattle.tap.specs.declared.Shown.{Shown}
 use Rattle.windows.proofs.Taken as takes

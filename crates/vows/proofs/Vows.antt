@@ -2,73 +2,28 @@
 -- Assumes nothing.
 use mathlib.Core.Path.{_≡_, refl, sym, ap, _∙_}
 use mathlib.Core.Bool.{true}
-use mathlib.Core.List.{List, [], _∷_, _++_, map, flatten}
+use mathlib.Core.List.{List, [], map, flatten}
 use Prim.Native.Nat.{ℕ, _≤_}
 use native.Mathlib.Omega.{arith}
-use lib.ListN.{length, drop}
+use lib.ListN.{length, take, drop}
 use Rattle.events.specs.Events.{resultNumber}
 use Rattle.events.specs.Table.{Final, finalOf, slots}
 use Rattle.events.specs.declared.Outcome.the-variants.{LongBoundary}
 use Rattle.promises.proofs.Determined.{entries}
 use Rattle.promises.specs.Promises.{Exit, Owes, Untouched}
 use Rattle.rules.specs.Secrecy.{Replaced, eventsOf}
-use Rattle.rules.specs.Sessions.{limit, startOf, answerOf}
+use Rattle.rules.specs.Sessions.{limit, startOf}
 use Rattle.rules.specs.declared.Entry.{Entry}
-use Rattle.tap.specs.Tapping.{isSound, recordOf, Read}
+use Rattle.tap.specs.Tapping.{isSound}
 use Rattle.windows.proofs.Counting as counts
 use Rattle.windows.proofs.Cut as cut
 use Rattle.windows.proofs.Keeping as keeping
 use Rattle.windows.proofs.Secrecy as secret
-use Rattle.windows.specs.Windows as windows
-use Rattle.windows.specs.Windows.{said, window, taken, Tap, tapped, shows, showsAll, lastly}
-use Rattle.windows.specs.Traces.{Answered, answered, answers, CutAlike}
-use Rattle.vows.specs.Vows.{Call, exitOf, answeredOf, Tapped, tapOf, windowOf, after, Calls, none, call, Run, Last, lone, later, windowEvents}
+use Rattle.windows.specs.Traces.{answers, CutAlike}
+use Rattle.windows.specs.Windows.{Record, Tap, tapped, showsAll, lastly}
+use Rattle.vows.specs.Vows.{Call, exitOf, answeredOf, Tapped, tapOf, Run, Runs, Last, windowEvents}
+use Rattle.vows.proofs.Calls.{calls-shown, first-calls, calls-hold, last-told}
 use Rattle.vows.proofs.Never.{never-twenty}
-use Rattle.vows.proofs.Takes.{read}
-
--- ---- a call does what the definition says of its window
-called : (x : Tapped) (w : List ℕ) (c : Call) → Read (x .session) (windowOf x w) (x .table) (c .gives) (c .table)
-    → (tapOf (after x w c) ≡ shows (tapOf x) w)
-    × (answeredOf c ≡ answered (recordOf (x .session)) (window (recordOf (x .session)) (x .table) (windowOf x w)))
-unfolding shows
-called x w c d =
-    let v = windowOf x w in
-    let n = taken (recordOf (x .session)) (window (recordOf (x .session)) (x .table) v) in (
-      rw (d .taken) (ap {B = Tap} (λ (g : windows.Shown). record { session = g .next; table = g .table; untaken = drop n v }) (d .is)),
-      rw (d .answer, d .taken) (ap {B = Answered} (λ (g : windows.Shown). record { answer = said (g .next) (g .table); took = n }) (d .is)),
-    )
-
--- ---- calls one after another
-record AsShown (x y : Tapped) (ws : List (List ℕ)) (cs : List Call) : Type 0 where
-  tap : tapOf y ≡ showsAll (tapOf x) ws
-  told : map answeredOf cs ≡ answers (tapOf x) ws
-  sound : isSound (y .session) ≡ true
-
-calls-shown : {x y : Tapped} {ws : List (List ℕ)} {cs : List Call} → isSound (x .session) ≡ true → Calls x ws cs y → AsShown x y ws cs
-unfolding showsAll answers
-calls-shown ok none = record { tap = refl; told = refl; sound = ok }
-calls-shown {x} {y} ok (call {ws = ws} {cs = cs} w c h more) =
-    let d = read (x .session) (windowOf x w) (x .table) (c .gives) (c .table) ok h in
-    let one = called x w c d in
-    let rest = calls-shown (d .sound) more in
-    record {
-      tap = rest .tap ∙ ap (λ (p : Tap). showsAll p ws) (one .0);
-      told = ap (λ (behind : List Answered). answeredOf c ∷ behind) (rest .told ∙ ap (λ (p : Tap). answers p ws) (one .0))
-          ∙ ap (λ (a : Answered). a ∷ answers (shows (tapOf x) w) ws) (one .1);
-      sound = rest .sound;
-    }
-
--- the last exit's answer is the definition's
-last-told : (ws : List (List ℕ)) (p : Tap) {cs : List Call} {c : Call} → Last c cs → map answeredOf cs ≡ answers p ws
-    → finalOf (c .table) (c .gives .answer) ≡ lastly (showsAll p ws)
-unfolding showsAll answers shows
-last-told [] p lone h = cc
-last-told [] p (later l) h = cc
-last-told (w ∷ []) p {c = c} lone h =
-    let e : answeredOf c ≡ answered (p .session) (window (p .session) (p .table) (p .untaken ++ w)) = cc in
-    ap (λ (a : Answered). a .answer) e
-last-told (w ∷ (v ∷ ws)) p lone h = cc
-last-told (w ∷ ws) p (later l) h = last-told ws (shows p w) l cc
 
 exitIn : Final → Exit
 exitIn f = record { table = f .table; answer = record { result = f .result; place = f .place; count = f .count } }
@@ -85,6 +40,17 @@ module _ {e : Entry} {t : List ℕ} {ws : List (List ℕ)} {cs : List Call} {x :
       let g = calls-shown (r .begun .sound) (r .calls) in
       let z : tapOf (record { session = r .session; table = t; untaken = [] }) ≡ start e t = rw (r .begun .is) refl in
       (g .tap ∙ ap (λ (p : Tap). showsAll p ws) z, g .told ∙ ap (λ (p : Tap). answers p ws) z, g .sound)
+
+  -- the untaken bytes are those past the session's position: what was taken and what will be shown again are all the bytes there were
+  pub untaken-bytes : (x .session .at ≤ length (flatten ws)) × (x .untaken ≡ drop (x .session .at) (flatten ws))
+  untaken-bytes =
+      let z : r .session .at ≡ 0 = ap (λ (p : Record). p .at) (r .begun .is) in
+      let g = calls-hold [] (r .begun .sound) (r .calls) (record { within = omega arith; left = rw z refl }) in
+      (g .within, g .left)
+
+  -- the first windows of a run are a run, so that what is said here of the last window and of the end is so of every window
+  pub first-windows : (n : ℕ) → Runs e t (take n ws) (take n cs)
+  first-windows n = let g = first-calls n (r .calls) in record { end = g .end; run = record { session = r .session; begun = r .begun; calls = g .calls } }
 
   -- ---- the last window, whose exit is c
   module _ {c : Call} (last : Last c cs) where

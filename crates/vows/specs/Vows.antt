@@ -58,6 +58,11 @@ pub record Run (e : Entry) (t : List ℕ) (ws : List (List ℕ)) (cs : List Call
   pub begun : Begun e session
   pub calls : Calls (record { session = session; table = t; untaken = [] }) ws cs x
 
+-- a run, whatever there is at its end
+pub record Runs (e : Entry) (t : List ℕ) (ws : List (List ℕ)) (cs : List Call) : Type 0 where
+  pub end : Tapped
+  pub run : Run e t ws cs end
+
 -- c is the last of the exits
 pub data Last (c : Call) : List Call → Type 0 where
   lone : Last c (c ∷ [])
