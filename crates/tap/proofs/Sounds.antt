@@ -26,7 +26,7 @@ use Rattle.rules.specs.declared.Mail.the-variants.{Smtp, Pop3, Imap}
 use Rattle.windows.proofs.Taken as takes
 use Rattle.windows.specs.Stands.{enters}
 use Rattle.windows.specs.Windows.{over, refused, window, taken}
-use Rattle.tap.specs.Tapping.{recordOf, begunBy, fitsBy, shortTo, isSound, startsAt, Begun, Read, Answers}
+use Rattle.tap.specs.Tapping.{recordOf, begunBy, fitsBy, shortTo, isSound, startsAt, Begun, Read, ShowsIf, Shows, Answers}
 use Rattle.tap.specs.declared.Session.{Session}
 use Rattle.tap.specs.declared.Shown.{Shown}
 
@@ -219,3 +219,11 @@ module _ (s : Session) (ok : isSound s ≡ true) where
         where
           took-so : spotOf (s .at) k u spot ≡ window (recordOf s) t w → taken (recordOf s) (window (recordOf s) t w) ≡ spot .taken
           took-so e = rw (← e) (let n : s .at + spot .taken - s .at ≡ spot .taken = omega arith in n)
+
+-- ---- no window takes more than it shows
+pub shows-within : (s : Session) (w t : List ℕ) (r : Shown) (u : List ℕ) → Shows s w t r u → r .taken ≤ length w
+shows-within s w t r u h = by-sound (isSound s) h
+  where
+    by-sound : (b : Bool) → ShowsIf b s w t r u → r .taken ≤ length w
+    by-sound true d = omega (arith, d .taken, takes.within (recordOf s) t w)
+    by-sound false d = omega (arith, ap (λ (x : Shown). x .taken) (d .is))
