@@ -12,6 +12,8 @@ use letters::Letter;
 use libc::STDIN_FILENO;
 use libc::STDOUT_FILENO;
 use rules::Entry;
+use tap::Session;
+use tap::Shown;
 
 // A session's bytes, its windows' lengths, the numbers of its table with some over, and bytes for a listing.
 const BYTES: usize = 65_536;
@@ -20,7 +22,7 @@ const LENGTHS: usize = 65_536;
 
 const TABLE: usize = 262_147;
 
-const OUTPUT: usize = 2_097_152;
+const OUTPUT: usize = 262_144;
 
 // The text of a case, and whether another one follows.
 enum Text {
@@ -235,7 +237,7 @@ fn show_all(
             return Windows::Large;
         }
         to += new;
-        let r = tap::show(session, &bytes[at..to], table);
+        let r = show(session, &bytes[at..to], table);
         let s = r.session;
         session = s;
         answer = r.answer;
@@ -244,6 +246,13 @@ fn show_all(
         i += 1;
     }
     Windows::Listed(text, answer)
+}
+
+// What a window takes lies in it.
+fn show(session: Session, w: &[u8], table: &mut [u32]) -> Shown
+    ensures { λ r. ⌜ r .taken ≤ length (now (w .entry)) ⌝ }
+{
+    tap::show(session, w, table)
 }
 
 // The line of a window: what was taken, and its answer.
