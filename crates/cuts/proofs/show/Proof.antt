@@ -1,18 +1,9 @@
 -- `cuts::show` meets its contract. Assumes nothing.
-use Rattle.tap.proofs.Sounds.{shows-within}
 use borrow.Author.Needs.{needs}
+use Rattle.tap.proofs.Sounds.{shows-within}
 use Rattle.cuts.proofs.show.Statement.{statement}
 use Rattle.cuts.proofs.show.Tie as tie
 
--- src/main.rt:255:5
-show-requires : tie.Need-show-requires
-show-requires c κs = search needs
-
--- src/main.rt:252:1
-same-length : tie.Need-same-length
-same-length c = search needs
-
--- src/main.rt:252:1
 returns : tie.Need-returns
 returns c =
     let called = c .before .before in
@@ -20,4 +11,4 @@ returns c =
     shows-within (a .session) (a .w .now) (a .table .now) (called .show .result) (called .show .last .1 .1 .0) (called .show .ensures)
 
 pub show-spec : {M : Type 1} → statement M
-show-spec = tie.close (tie.spec show-requires same-length returns)
+show-spec = tie.close (tie.spec (λ c _. search needs) (λ c. search needs) returns)
