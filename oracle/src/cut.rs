@@ -16,6 +16,9 @@ const OWN: u64 = 0x5749_4E44_4F57_5321;
 /// Byte by byte only up to this length.
 const SHORT: usize = 600;
 
+/// The most windows of a case: `cuts` has room for twice as many.
+const WINDOWS: usize = 8_192;
+
 /// Sessions up to this length are held against one call at every window.
 const SMALL: usize = 200;
 
@@ -150,6 +153,10 @@ fn lengths(rng: &mut Rng, bytes: &[u8]) -> Vec<usize> {
     };
     if rng.chance(30) {
         empty_between(rng, &mut lengths);
+    }
+    if lengths.len() > WINDOWS {
+        let rest = lengths.drain(WINDOWS - 1..).sum();
+        lengths.push(rest);
     }
     if lengths.is_empty() {
         lengths.push(0);
