@@ -94,7 +94,7 @@ impl Event {
     }
 }
 
-fn encoding_number(e: Encoding) -> u32
+pub fn encoding_number(e: Encoding) -> u32
     ensures { λ r. ⌜ r ≡ encodingNumber e ⌝ }
 {
     match e {

@@ -21,6 +21,7 @@ use Rattle.rules.specs.declared.Mail.{Mail}
 use Rattle.rules.specs.declared.Mail.the-variants.{Smtp, Pop3, Imap}
 use Rattle.windows.specs.Windows as windows
 use Rattle.windows.specs.Windows.{Record, begins, said, window, taken}
+use Rattle.tap.specs.declared.Seen.{Seen}
 use Rattle.tap.specs.declared.Session.{Session}
 use Rattle.tap.specs.declared.Shown.{Shown}
 
@@ -101,6 +102,13 @@ ShowsIf false s w t r u = Unread s t r u
 abbrev pub Shows : Session → List ℕ → List ℕ → Shown → List ℕ → Type 0
 Shows s w t r u = ShowsIf (isSound s) s w t r u
 
+-- the same by parts, where the copies are lent
+abbrev pub sessionWith : Phase → ℕ → Log → List ℕ → Session
+sessionWith ph at log k = record { phase = ph; at = at; log = log; boundaries = k }
+
+abbrev pub shownWith : Seen → List ℕ → Shown
+shownWith r k = record { session = sessionWith (r .phase) (r .at) (r .log) k; answer = r .answer; taken = r .taken }
+
 -- ---- below `show`
 
 abbrev pub waitingAt : ℕ → Log → Answer
@@ -108,12 +116,12 @@ waitingAt p log = record { result = Incomplete; place = p; count = log .count }
 
 pub record Left (spot : Spot) (at : ℕ) (k : List ℕ) (r : Shown) : Type 0 where
   pub is : r ≡ record {
-    session = record { phase = spot .phase; at = at; log = spot .log; boundaries = k };
+    session = sessionWith (spot .phase) at (spot .log) k;
     answer = record { result = NoSession; place = 0; count = 0 };
     taken = 0;
   }
 
 pub record Answers (spot : Spot) (base : ℕ) (k : List ℕ) (r : Shown) : Type 0 where
-  pub session : r .session ≡ record { phase = spot .phase; at = base + spot .taken; log = spot .log; boundaries = k }
+  pub session : r .session ≡ sessionWith (spot .phase) (base + spot .taken) (spot .log) k
   pub answer : (u : List ℕ) → finalOf u (r .answer) ≡ said (recordOf (r .session)) u
   pub taken : r .taken ≡ spot .taken

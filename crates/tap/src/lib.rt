@@ -8,7 +8,7 @@ ghost use Rattle.events.specs.Table.{finalOf};
 ghost use Rattle.rules.specs.Sessions.{limit};
 ghost use Rattle.windows.specs.Windows.{over, said};
 ghost use Rattle.phases.specs.Phasing.{stateOf};
-ghost use Rattle.tap.specs.Tapping.{Begun, Shows, Left, Answers, waitingAt, shortTo, fitsBy, begunBy, startsAt};
+ghost use Rattle.tap.specs.Tapping.{Begun, Shows, sessionWith, shownWith, Left, Answers, waitingAt, shortTo, fitsBy, begunBy, startsAt};
 use events::Answer;
 use events::Log;
 use events::Outcome;
@@ -41,6 +41,15 @@ pub struct Shown {
     pub taken: usize,
 }
 
+// The same but for the copies.
+pub struct Seen {
+    pub phase: Phase,
+    pub at: usize,
+    pub log: Log,
+    pub answer: Answer,
+    pub taken: usize,
+}
+
 pub fn begin(entry: Entry) -> Session
     ensures { λ r. ⌜ Begun entry r ⌝ }
 {
@@ -69,18 +78,44 @@ pub fn show(session: Session, w: &[u8], table: &mut [u32]) -> Shown
 {
     let phase = session.phase;
     let log = session.log;
-    let at = session.at;
-    let boundaries = session.boundaries;
+    let mut boundaries = session.boundaries;
+    let seen = show_lent(phase, session.at, log, &mut boundaries, w, table);
+    let phase = seen.phase;
+    let log = seen.log;
+    let answer = seen.answer;
+    Shown {
+        session: Session {
+            phase,
+            at: seen.at,
+            log,
+            boundaries,
+        },
+        answer,
+        taken: seen.taken,
+    }
+}
+
+// The same where the copies are lent, so that none of them is copied for a window.
+pub fn show_lent(
+    phase: Phase,
+    at: usize,
+    log: Log,
+    kept: &mut [u8; 648],
+    w: &[u8],
+    table: &mut [u32],
+) -> Seen
+    ensures { λ r. ⌜ Shows (sessionWith phase at log (now (kept .entry))) (now (w .entry)) (now (table .entry)) (shownWith r (now (kept .exit))) (now (table .exit)) ⌝ }
+{
     let here = Spot {
         phase,
         taken: 0,
         log,
     };
-    if !sound(phase, at, &boundaries) {
-        return no_session(here, at, boundaries);
+    if !sound(phase, at, kept) {
+        return no_session(here, at);
     }
     if is_over(phase) {
-        return answered(here, at, boundaries);
+        return answered(here, at);
     }
     if LIMIT - at < w.len() {
         let phase = Phase::Over(Outcome::TooLong, 0);
@@ -91,17 +126,15 @@ pub fn show(session: Session, w: &[u8], table: &mut [u32]) -> Shown
                 log,
             },
             at,
-            boundaries,
         );
     }
-    let mut kept = boundaries;
-    let spot = phases::advance(here, w, at, &mut kept, table);
-    answered(spot, at, kept)
+    let spot = phases::advance(here, w, at, kept, table);
+    answered(spot, at)
 }
 
 // Of a record that is none, nothing is done.
-fn no_session(spot: Spot, at: usize, boundaries: [u8; 648]) -> Shown
-    ensures { λ r. ⌜ Left spot at boundaries r ⌝ }
+fn no_session(spot: Spot, at: usize) -> Seen
+    ensures { λ r. ⌜ ((k : List ℕ) → Left spot at k (shownWith r k)) ⌝ }
 {
     let phase = spot.phase;
     let log = spot.log;
@@ -110,34 +143,28 @@ fn no_session(spot: Spot, at: usize, boundaries: [u8; 648]) -> Shown
         place: 0,
         count: 0,
     };
-    Shown {
-        session: Session {
-            phase,
-            at,
-            log,
-            boundaries,
-        },
+    Seen {
+        phase,
+        at,
+        log,
         answer,
         taken: 0,
     }
 }
 
 // What a spot makes of a record.
-fn answered(spot: Spot, base: usize, boundaries: [u8; 648]) -> Shown
+fn answered(spot: Spot, base: usize) -> Seen
     requires { ⌜ base + spot .taken ≤ limit ⌝ }
-    ensures { λ r. ⌜ Answers spot base boundaries r ⌝ }
+    ensures { λ r. ⌜ ((k : List ℕ) → Answers spot base k (shownWith r k)) ⌝ }
 {
     let phase = spot.phase;
     let log = spot.log;
     let at = base + spot.taken;
     let answer = answer_of(phase, at, log);
-    Shown {
-        session: Session {
-            phase,
-            at,
-            log,
-            boundaries,
-        },
+    Seen {
+        phase,
+        at,
+        log,
         answer,
         taken: spot.taken,
     }
