@@ -1,0 +1,21 @@
+-- `flat::row_by` meets its contract. Assumes nothing.
+use borrow.Author.Needs.{needs}
+use Rattle.flat.proofs.row_by.Statement.{statement}
+use Rattle.flat.proofs.row_by.Tie as tie
+
+returns : tie.Need-returns
+returns c =
+    let said = c .before .before .before in
+    rw (said .encoding-number .ensures, c .before .before .result-number .ensures, c .before .bit .ensures, c .bit2 .ensures)
+
+pub row-by-spec : {M : Type 1} → statement M
+row-by-spec =
+    tie.close
+    (tie.spec
+    (λ c κs. search needs)
+    (λ c. search needs)
+    (λ c κs. search needs)
+    (λ c. search needs)
+    (λ c κs. search needs)
+    (λ c κs. search needs)
+    returns)
