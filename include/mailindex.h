@@ -1,13 +1,14 @@
 /* The proved mail index: where sender, headers, bodies and parts of a mail session lie.
  *
- * Each entry reads one direction of one session, from its first byte, and writes the session's events into a table that the caller lends. It
- * keeps nothing between calls, allocates nothing, copies no byte of the session, and reads and writes nothing but the memory described
- * here. It may be called from any thread.
+ * One direction of one session is read, from its first byte, and its events are written into a table that the caller lends: by windows, as the bytes
+ * come (mailindex_begin, mailindex_show), or in one call, by who holds all of it (mailindex_smtp_client and its like). Both list the same.
+ * The library keeps nothing between calls, allocates nothing, and reads and writes nothing but the memory described here; of a session's bytes it
+ * copies none but the boundaries of open multiparts, into the record that the caller holds. It may be called from any thread.
  *
  * The caller sees to it that
- * - `bytes` points to `length` bytes that nobody changes during the call, `table` to `numbers` numbers and `answer` to three;
- * - the three do not overlap;
- * - no pointer is null, also where its length is 0, and `table` and `answer` are aligned for their type.
+ * - `bytes` points to `length` bytes that nobody changes during the call, `table` to `numbers` numbers, and every other pointer to as many as it says;
+ * - what one call is given does not overlap;
+ * - no pointer is null, also where its length is 0, and all are aligned for their type.
  * Nothing else is asked: any bytes and any length get an answer, and every number of the table behind the events stays as it was.
  */
 #ifndef MAILINDEX_H
@@ -21,7 +22,7 @@ extern "C" {
 #endif
 
 /* What this header describes; mailindex_version() says what the library is. */
-#define MAILINDEX_VERSION 1
+#define MAILINDEX_VERSION 2
 
 /* The longest session, in bytes; and how many numbers of the table an event takes. */
 #define MAILINDEX_LIMIT 16777216
@@ -77,7 +78,7 @@ enum mailindex_encoding {
 enum mailindex_result {
     MAILINDEX_DONE = 0,          /* the session ended [first unread byte] */
     MAILINDEX_INCOMPLETE = 1,    /* a read needs bytes beyond the end [where that read began] */
-    MAILINDEX_TOO_LONG = 2,      /* more than MAILINDEX_LIMIT bytes; nothing was read [0] */
+    MAILINDEX_TOO_LONG = 2,      /* more than MAILINDEX_LIMIT bytes [0]; in one call nothing was read, by windows earlier events stay */
     MAILINDEX_NO_HELLO = 3,      /* the first SMTP line lacks HELO or EHLO [0] */
     MAILINDEX_STARTTLS = 4,      /* the second SMTP line is STARTTLS [that line] */
     MAILINDEX_NO_RECIPIENT = 5,  /* a line before DATA is no recipient [that line] */
@@ -85,7 +86,10 @@ enum mailindex_result {
     MAILINDEX_SMALL_LITERAL = 7, /* a boundary-free literal below its header's length [after the blank line] */
     MAILINDEX_OPEN_LITERAL = 8,  /* a literal is not followed by CRLF [those bytes] */
     MAILINDEX_TOO_DEEP = 9,      /* a ninth multipart level [after its blank line] */
-    MAILINDEX_TABLE_FULL = 10    /* an event is due and no slot is free [that event's offset] */
+    MAILINDEX_TABLE_FULL = 10,   /* an event is due and no slot is free [that event's offset] */
+    /* By windows only: */
+    MAILINDEX_LONG_BOUNDARY = 12, /* a multipart's boundary of more than 70 bytes would open [after its blank line] */
+    MAILINDEX_NO_SESSION = 20     /* the record is none that mailindex_begin and mailindex_show have made; nothing was done [0] */
 };
 
 /* answer[0] is the result, answer[1] the place, answer[2] the number of events in the table.
@@ -97,6 +101,64 @@ void mailindex_smtp_client(const uint8_t *bytes, size_t length, uint32_t *table,
 void mailindex_smtp_server(const uint8_t *bytes, size_t length, uint32_t *table, size_t numbers, uint64_t *answer);
 void mailindex_pop3_server(const uint8_t *bytes, size_t length, uint32_t *table, size_t numbers, uint64_t *answer);
 void mailindex_imap_client(const uint8_t *bytes, size_t length, uint32_t *table, size_t numbers, uint64_t *answer);
+
+/* ---- by windows
+ *
+ * A session is begun once and then shown its bytes as they come:
+ *
+ *     uint64_t choices[MAILINDEX_CHOICES] = {0};
+ *     choices[MAILINDEX_ENTRY] = MAILINDEX_POP3_SERVER;
+ *     struct mailindex_session session;
+ *     mailindex_begin(choices, session.numbers, session.boundaries);
+ *     for each window, the bytes that the last one left untaken in front of it:
+ *         mailindex_show(session.numbers, session.boundaries, bytes, length, table, numbers, answer);
+ *         answer[3] bytes of it were taken and need not be kept.
+ *
+ * However the session is cut, also byte by byte or with empty windows, its last answer and table are those of one call on all its bytes; a boundary of more than 70
+ * bytes apart, which only windows refuse (12). INCOMPLETE means: show more, if there is more. After any other answer the session is over: it takes
+ * nothing more and repeats its answer.
+ *
+ * What is taken: all before the read that is not finished, and of it, in a sized body (kind 4) every byte, in a part's body and before the first part every
+ * finished line. So a caller keeps at most one unfinished line from window to window, whatever the body's size. DONE takes up to its place, any
+ * other end takes nothing of its window.
+ *
+ * An unfinished line is read again from its first byte when more of it is shown. A line of n bytes shown again for every k of them costs n * n / k / 2: where lines
+ * can be long, let the windows grow, to twice their size whenever nothing was taken, and show again only when that much has come. What was taken
+ * is never looked at again. */
+
+/* A session between windows: the caller holds it, the library makes it. What its numbers are is not said; it may be copied, moved and stored, and a copy goes
+ * on from where the session was then. It holds no pointer and no byte of the session but open boundaries. */
+#define MAILINDEX_SESSION_NUMBERS 24
+#define MAILINDEX_SESSION_BOUNDARIES 648
+struct mailindex_session {
+    uint64_t numbers[MAILINDEX_SESSION_NUMBERS];
+    uint8_t boundaries[MAILINDEX_SESSION_BOUNDARIES];
+};
+
+/* What is chosen where a session begins: a number for each choice, at the choice's index. 0 is a choice's default, and what has no name yet is 0, so that
+ * a caller who leaves it so is not touched by a choice that is added. The entry has no default. */
+#define MAILINDEX_CHOICES 8
+enum mailindex_choice {
+    MAILINDEX_ENTRY = 0
+};
+
+enum mailindex_entry {
+    MAILINDEX_SMTP_CLIENT = 1,
+    MAILINDEX_SMTP_SERVER = 2,
+    MAILINDEX_POP3_SERVER = 3,
+    MAILINDEX_IMAP_CLIENT = 4
+};
+
+/* Begins a session: INCOMPLETE; or NO_SESSION where a choice is none of those above, and the record is then no session's.
+ * choices points to MAILINDEX_CHOICES numbers, numbers and boundaries to those of a struct mailindex_session. */
+uint32_t mailindex_begin(const uint64_t *choices, uint64_t *numbers, uint8_t *boundaries);
+
+/* Shows a window. answer[0] is the result, answer[1] the place, answer[2] the number of events in the table, all as of one call on the bytes so far; answer[3] is
+ * how many bytes of the window were taken. Places and offsets count from the session's first byte.
+ *
+ * session_numbers and boundaries are those of the session's struct, answer has four numbers. The table keeps the events of earlier windows, in front:
+ * it may be another one, larger and with these copied, from window to window. A slot for each byte shown so far always suffices. */
+void mailindex_show(uint64_t *session_numbers, uint8_t *boundaries, const uint8_t *bytes, size_t length, uint32_t *table, size_t numbers, uint64_t *answer);
 
 enum mailindex_protocol {
     MAILINDEX_SMTP = 1,

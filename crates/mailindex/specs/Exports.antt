@@ -1,18 +1,28 @@
--- What a caller in C gets: the table, and an answer's three numbers.
+-- What a caller in C gets: the table, an answer's numbers, and a session between windows as numbers.
 -- Assumes nothing.
 use mathlib.Core.Path.{_≡_}
-use mathlib.Core.Bool.{Bool, not}
+use mathlib.Core.Bool.{Bool, true, cond, not, _&&_}
 use mathlib.Core.List.{List, [], _∷_}
-use Prim.Native.Nat.{ℕ}
+use Prim.Native.Nat.{ℕ, zero, suc}
 use lib.Dec.{eqb}
+use lib.ListN.{getD, replicate}
 use Rattle.direction.specs.Direction.{Side, side}
 use Rattle.events.specs.Events.{resultNumber}
 use Rattle.events.specs.Table.{Final}
 use Rattle.events.specs.declared.Answer.{Answer}
+use Rattle.events.specs.declared.Outcome.the-variants.{Incomplete, NoSession}
+use Rattle.flat.specs.Flats as flat
+use Rattle.rules.specs.declared.Entry.{Entry}
+use Rattle.rules.specs.declared.Entry.the-variants.{SmtpClient, SmtpServer, Pop3Server, ImapClient}
+use Rattle.tap.specs.Tapping.{Begun, Shows, sessionWith}
+use Rattle.tap.specs.declared.Session.{Session}
+use Rattle.tap.specs.declared.Shown.{Shown}
+use Rattle.mailindex.specs.declared.Chosen.{Chosen}
+use Rattle.mailindex.specs.declared.Chosen.the-variants as chose
 
 -- MAILINDEX_VERSION of include/mailindex.h
 abbrev pub version : ℕ
-version = 1
+version = 2
 
 -- result, place, count
 abbrev pub numbersOf : Answer → List ℕ
@@ -30,3 +40,60 @@ marked port mark payload = side port (held mark) payload
 pub record Answers (f : Final) (u n : List ℕ) : Type 0 where
   pub table : u ≡ f .table
   pub numbers : n ≡ resultNumber (f .result) ∷ f .place ∷ f .count ∷ []
+
+-- ---- by windows: a session is held as numbers and copies of its open boundaries
+abbrev pub sessionOf : List ℕ → List ℕ → Session
+sessionOf ns k = sessionWith (flat.phaseOf ns) (flat.takenOf ns) (flat.logOf ns) k
+
+abbrev pub sessionNumbers : Session → List ℕ
+sessionNumbers s = flat.numbersOf (s .phase) (s .at) (s .log)
+
+-- ns and k hold the session s
+pub record Holds (s : Session) (ns k : List ℕ) : Type 0 where
+  pub numbers : ns ≡ sessionNumbers s
+  pub copies : k ≡ s .boundaries
+
+-- choices 1 to i are not made: each is 0
+unfoldable pub unset : List ℕ → ℕ → Bool
+unset cs zero = true
+unset cs (suc i) = eqb (getD cs (suc i) 0) 0 && unset cs i
+
+unfoldable pub entryBy : ℕ → Chosen
+entryBy n =
+    cond (eqb n 1) (chose.Of SmtpClient)
+    (cond (eqb n 2) (chose.Of SmtpServer)
+    (cond (eqb n 3) (chose.Of Pop3Server)
+    (cond (eqb n 4) (chose.Of ImapClient)
+    chose.None)))
+
+-- choice 0 is the entry; the seven others have no name yet
+abbrev pub chosen : List ℕ → Chosen
+chosen cs = cond (unset cs 7) (entryBy (getD cs 0 0)) chose.None
+
+-- a session of the entry e is begun, and held; r says that it waits for bytes
+pub record BeginsWith (e : Entry) (ns k : List ℕ) (r : ℕ) : Type 0 where
+  pub session : Session
+  pub begun : Begun e session
+  pub holds : Holds session ns k
+  pub result : r ≡ resultNumber Incomplete
+
+-- choices that name no entry begin nothing: what is held is no session, and r says so
+pub record BeginsNone (ns k : List ℕ) (r : ℕ) : Type 0 where
+  pub numbers : ns ≡ replicate 24 0
+  pub copies : k ≡ replicate 648 0
+  pub result : r ≡ resultNumber NoSession
+
+abbrev pub Begins : Chosen → List ℕ → List ℕ → ℕ → Type 0
+Begins (chose.Of e) ns k r = BeginsWith e ns k r
+Begins chose.None ns k r = BeginsNone ns k r
+
+-- result, place, count and how many bytes were taken
+abbrev pub shownOf : Answer → ℕ → List ℕ
+shownOf a taken = resultNumber (a .result) ∷ a .place ∷ a .count ∷ taken ∷ []
+
+-- a window is shown to what ns and k hold, as `show` does it: ns' and k' hold the session then, u is the table, n the answer
+pub record Showing (ns k w t ns' k' u n : List ℕ) : Type 0 where
+  pub shown : Shown
+  pub shows : Shows (sessionOf ns k) w t shown u
+  pub holds : Holds (shown .session) ns' k'
+  pub answer : n ≡ shownOf (shown .answer) (shown .taken)

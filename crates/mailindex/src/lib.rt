@@ -1,11 +1,112 @@
-// The four entries and the direction guess for C and Rust: include/mailindex.h documents each number.
+// Sessions by windows, the four entries and the direction guess for C and Rust: include/mailindex.h documents each number.
 ghost use mathlib.Core.Path.{_≡_};
 ghost use Rattle.direction.specs.Direction.{guess, guessNumber};
 ghost use Rattle.rules.specs.Sessions.{smtpClient, smtpServer, pop3Server, imapClient};
-ghost use Rattle.mailindex.specs.Exports.{Answers, numbersOf, marked, version};
+ghost use Rattle.mailindex.specs.Exports.{Answers, numbersOf, marked, version, chosen, unset, Begins, Showing, shownOf};
 use events::Answer;
+use events::Log;
+use events::Outcome;
+use rules::Entry;
 
-const VERSION: u32 = 1;
+const VERSION: u32 = 2;
+
+// The entry that a session's choices name.
+pub enum Chosen {
+    Of(Entry),
+    None,
+}
+
+// Begins a session: what C holds of it is its numbers and the copies of its open boundaries.
+#[no_mangle]
+pub extern "C" fn mailindex_begin(
+    choices: &[u64; 8],
+    numbers: &mut [u64; 24],
+    boundaries: &mut [u8; 648],
+) -> u32
+    ensures { λ r. ⌜ Begins (chosen (now (choices .entry))) (now (numbers .exit)) (now (boundaries .exit)) r ⌝ }
+{
+    match entry_of(choices) {
+        Chosen::None => {
+            *numbers = [0; 24];
+            *boundaries = [0; 648];
+            events::result_number(Outcome::NoSession)
+        }
+        Chosen::Of(entry) => {
+            let session = tap::begin(entry);
+            let phase = session.phase;
+            let log = session.log;
+            let copies = session.boundaries;
+            *numbers = flat::numbers_of(phase, session.at, log);
+            *boundaries = copies;
+            events::result_number(Outcome::Incomplete)
+        }
+    }
+}
+
+// Shows it a window: result, place, count and how many bytes were taken.
+#[no_mangle]
+pub extern "C" fn mailindex_show(
+    numbers: &mut [u64; 24],
+    boundaries: &mut [u8; 648],
+    w: &[u8],
+    table: &mut [u32],
+    answer: &mut [u64; 4],
+)
+    ensures { λ _. ⌜ Showing (now (numbers .entry)) (now (boundaries .entry)) (now (w .entry)) (now (table .entry)) (now (numbers .exit)) (now (boundaries .exit)) (now (table .exit)) (now (answer .exit)) ⌝ }
+{
+    let phase = flat::phase_of(numbers);
+    let at = numbers[1] as usize;
+    let log = Log {
+        count: numbers[2] as usize,
+    };
+    let seen = tap::show_lent(phase, at, log, boundaries, w, table);
+    let phase = seen.phase;
+    let log = seen.log;
+    let said = seen.answer;
+    *numbers = flat::numbers_of(phase, seen.at, log);
+    *answer = shown_numbers(said, seen.taken);
+}
+
+// The entry at index 0; the other choices have no name yet, and are 0.
+fn entry_of(choices: &[u64; 8]) -> Chosen
+    ensures { λ r. ⌜ r ≡ chosen (now (choices .entry)) ⌝ }
+{
+    if !rest_unset(choices) {
+        return Chosen::None;
+    }
+    match choices[0] {
+        1 => Chosen::Of(Entry::SmtpClient),
+        2 => Chosen::Of(Entry::SmtpServer),
+        3 => Chosen::Of(Entry::Pop3Server),
+        4 => Chosen::Of(Entry::ImapClient),
+        _ => Chosen::None,
+    }
+}
+
+fn rest_unset(choices: &[u64; 8]) -> bool
+    ensures { λ r. ⌜ r ≡ unset (now (choices .entry)) 7 ⌝ }
+{
+    let mut i = 7;
+    while 0 < i {
+        if choices[i] != 0 {
+            return false;
+        }
+        i -= 1;
+    }
+    true
+}
+
+fn shown_numbers(a: Answer, taken: usize) -> [u64; 4]
+    ensures { λ r. ⌜ r ≡ shownOf a taken ⌝ }
+{
+    let result = a.result;
+    [
+        events::result_number(result) as u64,
+        a.place as u64,
+        a.count as u64,
+        taken as u64,
+    ]
+}
 
 #[no_mangle]
 pub extern "C" fn mailindex_smtp_client(s: &[u8], table: &mut [u32], answer: &mut [u64; 3])
