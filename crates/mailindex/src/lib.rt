@@ -52,7 +52,8 @@ pub extern "C" fn mailindex_show(
     table: &mut [u32],
     answer: &mut [u64; 4],
 )
-    ensures { λ _. ⌜ Showing (now (numbers .entry)) (now (boundaries .entry)) (now (w .entry)) (now (table .entry)) (now (numbers .exit)) (now (boundaries .exit)) (now (table .exit)) (now (answer .exit)) ⌝ }
+    ensures { λ _. ⌜ Showing (now (numbers .entry)) (now (boundaries .entry)) (now (w .entry)) (now (table .entry))
+        (now (numbers .exit)) (now (boundaries .exit)) (now (table .exit)) (now (answer .exit)) ⌝ }
 {
     let phase = flat::phase_of(numbers);
     let at = numbers[1] as usize;
