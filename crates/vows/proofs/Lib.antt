@@ -1,4 +1,5 @@
 pub mod Calls
 pub mod Never
 pub mod Takes
+pub mod Through
 pub mod Vows
