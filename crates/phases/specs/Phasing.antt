@@ -7,9 +7,11 @@ use mathlib.Core.Option.{Option, none, some}
 use Prim.Native.Nat.{ℕ, zero, suc, _+_, _-_, _*_, _≤_, _<_}
 use lib.Dec.{eqb}
 use lib.ListN.{length, take, drop, getD}
+use Rattle.events.specs.Events.{resultNumber}
 use Rattle.events.specs.declared.Encoding.{Encoding}
 use Rattle.events.specs.declared.Encoding.the-variants.{Unsaid}
 use Rattle.events.specs.declared.Log.{Log}
+use Rattle.events.specs.declared.Outcome.{Outcome}
 use Rattle.fields.specs.Common.{Known, part, scanned}
 use Rattle.reading.specs.Bytes.{endsWith}
 use Rattle.reading.specs.Reading.{crlf, dash}
@@ -162,6 +164,10 @@ overOf a e = turn.On (record { phase = is.Over (a .result) (a .place); taken = e
 abbrev pub onwardOf : Noted → Phase → ℕ → Turn
 onwardOf (noted.Written next) ph e = turn.On (record { phase = ph; taken = e; log = next })
 onwardOf (noted.Stopped a) ph e = overOf a e
+
+-- the session is over: done takes what was read, a refusal nothing
+abbrev pub endedOf : Outcome → ℕ → ℕ → Log → Turn
+endedOf o q p log = turn.Stop (record { phase = is.Over o q; taken = cond (eqb (resultNumber o) 0) p 0; log = log })
 
 -- a turn that may copy a boundary
 pub record HeadIs (w : List ℕ) (base p : ℕ) (k t : List ℕ) (log : Log) (ph : Phase) (r : Turn) (k' u : List ℕ) : Type 0 where

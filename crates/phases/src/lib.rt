@@ -7,7 +7,7 @@ ghost use lib.Dec.{eqb};
 ghost use lib.ListN.{length};
 ghost use Rattle.events.specs.Events.{resultNumber};
 ghost use Rattle.rules.specs.Sessions.{limit};
-ghost use Rattle.phases.specs.Phasing.{Ready, Turned, Went, Slots};
+ghost use Rattle.phases.specs.Phasing.{Ready, Turned, Went, endedOf};
 use events::Encoding;
 use events::Log;
 use events::Outcome;
@@ -116,28 +116,23 @@ fn one_phase(spot: Spot, w: &[u8], base: usize, kept: &mut [u8], table: &mut [u3
             parts::preamble(w, base, p, mail, level, from, here, kept, log)
         }
         Phase::Opened(mail, level) => parts::opened(w, base, p, mail, level, log),
-        Phase::Content(mail, encoding, level, from, here) => parts::content(
-            w,
-            base,
-            p,
-            mail,
-            encoding,
-            level,
-            from,
-            here,
-            kept,
-            table,
-            log,
-        ),
+        Phase::Content(mail, said, level, from, here) => {
+            parts::content(w, base, p, mail, said, level, from, here, kept, table, log)
+        }
         Phase::Between(mail, level) => parts::between(w, base, p, mail, level, kept, log),
         Phase::Skipping(mail, level) => parts::skipping(w, base, p, mail, level, kept, log),
         Phase::Resting(mail, level, left) => parts::resting(w, base, p, mail, level, left, log),
-        Phase::Over(result, place) => Turn::Stop(Spot {
-            phase: Phase::Over(result, place),
-            taken: settled(result, p),
-            log,
-        }),
+        Phase::Over(result, place) => ended(result, place, p, log),
     }
+}
+
+// The session is over, and stays so.
+fn ended(result: Outcome, place: usize, p: usize, log: Log) -> Turn
+    ensures { λ r. ⌜ r ≡ endedOf result place p log ⌝ }
+{
+    let phase = Phase::Over(result, place);
+    let taken = settled(result, p);
+    Turn::Stop(Spot { phase, taken, log })
 }
 
 // Done takes what was read, a refusal nothing.

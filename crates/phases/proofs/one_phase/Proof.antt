@@ -1,4 +1,5 @@
 -- `phases::one_phase` meets its contract: each phase has its function, and an end takes what it may. Assumes nothing.
+use mathlib.Core.Path.{refl}
 use Rattle.phases.proofs.Dispatch.{ready-head, ready-literal, ready-preamble, ready-opened, ready-content, ready-between, ready-skipping, ready-resting, ends-here}
 use borrow.Author.Needs.{needs}
 use Rattle.phases.proofs.one_phase.Statement.{statement}
@@ -226,7 +227,7 @@ returns-22 : tie.Need-returns-22
 returns-22 c =
     let told = c .before .before in
     let ready = start (told .before .before) .pre .1 in
-    record { slots = ready .slots; is = rw (told .phase11 .given .1) (ends-here (ready .within) (c .settled .ensures)) }
+    record { slots = ready .slots; is = rw (told .phase11 .given .1, c .ended .ensures) (ends-here (ready .within) refl) }
 
 pub one-phase-spec : {M : Type 1} → statement M
 one-phase-spec =
