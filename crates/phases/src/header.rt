@@ -99,17 +99,12 @@ fn learn(w: &[u8], p: usize, e: usize, heard: Heard, level: usize, kept: &mut [u
             supplied: true,
         };
     }
-    let boundary = Bdry::Unsupplied;
-    let scan = fields::common::scan_line(
-        w,
-        p,
-        e,
-        Scan {
-            encoding: said,
-            seen,
-            boundary,
-        },
-    );
+    let before = Scan {
+        encoding: said,
+        seen,
+        boundary: Bdry::Unsupplied,
+    };
+    let scan = fields::common::scan_line(w, p, e, before);
     let encoding = scan.encoding;
     let supplied = scan.boundary;
     match supplied {
