@@ -42,7 +42,7 @@ use Rattle.windows.specs.Windows.{lands}
 use Rattle.phases.proofs.Reactions.{offered-mail, offered-not}
 use Rattle.phases.proofs.Turning.{to-end, piece-of, waits-whole, leads, leads-written, leads-full, came-leaves, came-goes, came-turn}
 use Rattle.phases.specs.Phasing.{slot, outside, Slots, Kept, boundaryOf, knownAs, unheard, stateOf, Fits, Piece, Came, TurnIs, HeadIs, overOf, onwardOf}
-use Rattle.phases.specs.Phasing.{Learns, BegunIs, DeeperIs}
+use Rattle.phases.specs.Phasing.{Learns, BegunIs, DeeperIs, behindOf}
 use Rattle.phases.specs.declared.Heard.{Heard}
 use Rattle.phases.specs.declared.Phase.{Phase}
 use Rattle.phases.specs.declared.Phase.the-variants as is
@@ -203,12 +203,12 @@ module _ (k : List ℕ) (e : Encoding) (to : ℕ) {t : List ℕ} {log : Log} {m 
 module _ (m : Mail) (x : Heard) (i to : ℕ) (k : List ℕ) {t : List ℕ} {log : Log} where
   -- a multipart
   pub begun-deeper : {ph : Phase} → x .supplied ≡ true → DeeperIs m k i to ph
-      → BegunIs (begun m (x .encoding) (boundaryOf k i x) (outside k i) to) to k t log (record { phase = ph; noted = noted.Written log }) t
+      → BegunIs (behindOf m x i k to) to k t log (record { phase = ph; noted = noted.Written log }) t
   begun-deeper h d = rw h (record { notes = rw (d .still (x .encoding)) still; enters = d .enters (x .encoding) })
 
   -- a mail with no boundary
   pub begun-mail : {r : Begun} {u : List ℕ} → x .supplied ≡ false → i ≡ 0 → BegunIs (plainMail m (x .encoding) to) to k t log r u
-      → BegunIs (begun m (x .encoding) (boundaryOf k i x) (outside k i) to) to k t log r u
+      → BegunIs (behindOf m x i k to) to k t log r u
   unfolding begun boundaryFree outside
   begun-mail h z d = rw (h, z) d
 
@@ -288,11 +288,11 @@ module _ {w : List ℕ} {base a : ℕ} {k₀ t₀ : List ℕ} {log₀ : Log} {ph
 
       -- the blank line
       pub head-begun : {b : Begun} {v : List ℕ} {r : Turn} → same crlf (part w p e) ≡ true
-          → BegunIs (begun m (x .encoding) (boundaryOf k i x) (outside k i) (base + e)) (base + e) k u next b v → r ≡ onwardOf (b .noted) (b .phase) e
+          → BegunIs (behindOf m x i k (base + e)) (base + e) k u next b v → r ≡ onwardOf (b .noted) (b .phase) e
           → HeadIs w base a k₀ t₀ log₀ ph r k v
       unfolding stateOf
       head-begun {b} {v} h y q =
-          let re = begun m (x .encoding) (boundaryOf k i x) (outside k i) (base + e) in
+          let re = behindOf m x i k (base + e) in
           rw q (record {
             slots = at .slots;
             is =

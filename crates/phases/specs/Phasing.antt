@@ -158,6 +158,14 @@ abbrev pub TurnIs : List ℕ → ℕ → ℕ → List ℕ → List ℕ → Log �
 TurnIs w base p k t log f (turn.On r) u = Leaves w base p k t log f r u
 TurnIs w base p k t log f (turn.Stop r) u = Goes w base p k t log f r u
 
+-- the turn of a phase that copies no boundary: k stays as it is
+abbrev pub TurnOf : List ℕ → ℕ → ℕ → List ℕ → List ℕ → Log → Phase → Turn → List ℕ → Type 0
+TurnOf w base p k t log ph r u = TurnIs w base p k t log (stateOf k ph) r u
+
+-- whatever stands at p, takes a piece up to e and reacts so: its turn
+pub record Follows (w : List ℕ) (base p e : ℕ) (re : Reaction State) (t : List ℕ) (log : Log) (r : Turn) (u : List ℕ) : Type 0 where
+  pub is : (k : List ℕ) (f : Stand) → Piece w base p f e re → TurnIs w base p k t log f r u
+
 abbrev pub overOf : Stop → ℕ → Turn
 overOf a e = turn.On (record { phase = is.Over (a .result) (a .place); taken = e; log = a .log })
 
@@ -181,6 +189,10 @@ pub record Learns (w : List ℕ) (p e : ℕ) (x : Heard) (i : ℕ) (k : List ℕ
   pub slots : Slots k'
   pub outer : outside k' i ≡ outside k i
   pub is : knownAs k' i r ≡ clipped (scanned (knownAs k i x) (part w p e))
+
+-- what a header that has said so does behind its blank line, which ends at `to`
+abbrev pub behindOf : Mail → Heard → ℕ → List ℕ → ℕ → Reaction State
+behindOf m x i k to = begun m (x .encoding) (boundaryOf k i x) (outside k i) to
 
 -- a reaction under way at `to`: its events go to the table, and the phase is the one it leads to
 pub record BegunIs (re : Reaction State) (to : ℕ) (k t : List ℕ) (log : Log) (r : Begun) (u : List ℕ) : Type 0 where

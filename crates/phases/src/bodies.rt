@@ -3,7 +3,7 @@ ghost use mathlib.Core.List.{List};
 ghost use Prim.Native.Nat.{ℕ, _+_, _≤_};
 ghost use lib.ListN.{length};
 ghost use Rattle.rules.specs.Sessions.{limit};
-ghost use Rattle.phases.specs.Phasing.{TurnIs, stateOf};
+ghost use Rattle.phases.specs.Phasing.{TurnOf};
 use crate::Phase;
 use crate::Spot;
 use crate::Turn;
@@ -32,7 +32,7 @@ pub fn text(
     log: Log,
 ) -> Turn
     requires { ⌜ (base + length (now w) ≤ limit) × (at ≤ length (now w)) ⌝ }
-    ensures { λ r. ⌜ ((k : List ℕ) → TurnIs (now (w .entry)) base at k (now (table .entry)) log (stateOf k (Phase.Text mail encoding)) r (now (table .exit))) ⌝ }
+    ensures { λ r. ⌜ ((k : List ℕ) → TurnOf (now (w .entry)) base at k (now (table .entry)) log (Phase.Text mail encoding) r (now (table .exit))) ⌝ }
 {
     let mut p = at;
     let mut n = log;
@@ -77,7 +77,7 @@ pub fn literal(
     log: Log,
 ) -> Turn
     requires { ⌜ (base + length (now w) ≤ limit) × (p ≤ length (now w)) × (from ≤ base + p) ⌝ }
-    ensures { λ r. ⌜ ((k : List ℕ) → TurnIs (now (w .entry)) base p k (now (table .entry)) log (stateOf k (Phase.Literal encoding from left)) r (now (table .exit))) ⌝ }
+    ensures { λ r. ⌜ ((k : List ℕ) → TurnOf (now (w .entry)) base p k (now (table .entry)) log (Phase.Literal encoding from left) r (now (table .exit))) ⌝ }
 {
     let shown = (w.len() - p) as u64;
     if shown <= left {

@@ -2,7 +2,7 @@
 ghost use mathlib.Core.Path.{_≡_};
 ghost use Prim.Native.Nat.{_+_, _*_, _≤_, _<_, min};
 ghost use lib.ListN.{length, getD};
-ghost use Rattle.phases.specs.Phasing.{Kept, Slots};
+ghost use Rattle.phases.specs.Phasing.{Kept};
 
 pub const SLOT: usize = 72;
 

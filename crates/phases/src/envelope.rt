@@ -5,8 +5,7 @@ ghost use lib.ListN.{length};
 ghost use Rattle.fields.specs.Common.{part};
 ghost use Rattle.rules.specs.Sessions.{limit};
 ghost use Rattle.rules.specs.Smtp.{tried};
-ghost use Rattle.windows.specs.Stands.{Stand};
-ghost use Rattle.phases.specs.Phasing.{TurnIs, stateOf, Piece};
+ghost use Rattle.phases.specs.Phasing.{TurnOf, Follows};
 use crate::Phase;
 use crate::Spot;
 use crate::Turn;
@@ -38,7 +37,7 @@ use rules::Mail;
 
 pub fn hello(w: &[u8], base: usize, p: usize, log: Log) -> Turn
     requires { ⌜ (base + length (now w) ≤ limit) × (p ≤ length (now w)) ⌝ }
-    ensures { λ r. ⌜ ((k t : List ℕ) → TurnIs (now (w .entry)) base p k t log (stateOf k Phase.Hello) r t) ⌝ }
+    ensures { λ r. ⌜ ((k t : List ℕ) → TurnOf (now (w .entry)) base p k t log Phase.Hello r t) ⌝ }
 {
     match line(w, p) {
         Read::Stop(_) => Turn::Stop(Spot {
@@ -65,7 +64,7 @@ pub fn hello(w: &[u8], base: usize, p: usize, log: Log) -> Turn
 
 pub fn second(w: &[u8], base: usize, p: usize, table: &mut [u32], log: Log) -> Turn
     requires { ⌜ (base + length (now w) ≤ limit) × (p ≤ length (now w)) ⌝ }
-    ensures { λ r. ⌜ ((k : List ℕ) → TurnIs (now (w .entry)) base p k (now (table .entry)) log (stateOf k Phase.Second) r (now (table .exit))) ⌝ }
+    ensures { λ r. ⌜ ((k : List ℕ) → TurnOf (now (w .entry)) base p k (now (table .entry)) log Phase.Second r (now (table .exit))) ⌝ }
 {
     match clean_line(w, p) {
         Clean::Stop(_) => Turn::Stop(Spot {
@@ -97,7 +96,7 @@ pub fn second(w: &[u8], base: usize, p: usize, table: &mut [u32], log: Log) -> T
 // The line from p up to `end`, tried as sender; reading goes on at e.
 fn tried(w: &[u8], base: usize, p: usize, end: usize, e: usize, table: &mut [u32], log: Log) -> Turn
     requires { ⌜ (base + length (now w) ≤ limit) × (p ≤ end) × (end ≤ e) × (e ≤ length (now w)) ⌝ }
-    ensures { λ r. ⌜ ((k : List ℕ) (f : Stand) → Piece (now (w .entry)) base p f e (tried (base + p) (part (now (w .entry)) p end)) → TurnIs (now (w .entry)) base p k (now (table .entry)) log f r (now (table .exit))) ⌝ }
+    ensures { λ r. ⌜ Follows (now (w .entry)) base p e (tried (base + p) (part (now (w .entry)) p end)) (now (table .entry)) log r (now (table .exit)) ⌝ }
 {
     match mail_from(&w[p..end]) {
         Address::Missing => Turn::On(Spot {
@@ -114,7 +113,7 @@ fn tried(w: &[u8], base: usize, p: usize, end: usize, e: usize, table: &mut [u32
 
 pub fn user(w: &[u8], base: usize, p: usize, table: &mut [u32], log: Log) -> Turn
     requires { ⌜ (base + length (now w) ≤ limit) × (p ≤ length (now w)) ⌝ }
-    ensures { λ r. ⌜ ((k : List ℕ) → TurnIs (now (w .entry)) base p k (now (table .entry)) log (stateOf k Phase.User) r (now (table .exit))) ⌝ }
+    ensures { λ r. ⌜ ((k : List ℕ) → TurnOf (now (w .entry)) base p k (now (table .entry)) log Phase.User r (now (table .exit))) ⌝ }
 {
     match clean_line(w, p) {
         Clean::Stop(_) => Turn::Stop(Spot {
@@ -131,7 +130,7 @@ pub fn user(w: &[u8], base: usize, p: usize, table: &mut [u32], log: Log) -> Tur
 
 pub fn password(w: &[u8], base: usize, p: usize, table: &mut [u32], log: Log) -> Turn
     requires { ⌜ (base + length (now w) ≤ limit) × (p ≤ length (now w)) ⌝ }
-    ensures { λ r. ⌜ ((k : List ℕ) → TurnIs (now (w .entry)) base p k (now (table .entry)) log (stateOf k Phase.Password) r (now (table .exit))) ⌝ }
+    ensures { λ r. ⌜ ((k : List ℕ) → TurnOf (now (w .entry)) base p k (now (table .entry)) log Phase.Password r (now (table .exit))) ⌝ }
 {
     match clean_line(w, p) {
         Clean::Stop(_) => Turn::Stop(Spot {
@@ -148,7 +147,7 @@ pub fn password(w: &[u8], base: usize, p: usize, table: &mut [u32], log: Log) ->
 
 pub fn sender(w: &[u8], base: usize, p: usize, table: &mut [u32], log: Log) -> Turn
     requires { ⌜ (base + length (now w) ≤ limit) × (p ≤ length (now w)) ⌝ }
-    ensures { λ r. ⌜ ((k : List ℕ) → TurnIs (now (w .entry)) base p k (now (table .entry)) log (stateOf k Phase.Sender) r (now (table .exit))) ⌝ }
+    ensures { λ r. ⌜ ((k : List ℕ) → TurnOf (now (w .entry)) base p k (now (table .entry)) log Phase.Sender r (now (table .exit))) ⌝ }
 {
     match clean_line(w, p) {
         Clean::Stop(_) => Turn::Stop(Spot {
@@ -163,7 +162,7 @@ pub fn sender(w: &[u8], base: usize, p: usize, table: &mut [u32], log: Log) -> T
 // Lines up to one that begins MAIL FROM:, and that is tried.
 pub fn seeking(w: &[u8], base: usize, at: usize, table: &mut [u32], log: Log) -> Turn
     requires { ⌜ (base + length (now w) ≤ limit) × (at ≤ length (now w)) ⌝ }
-    ensures { λ r. ⌜ ((k : List ℕ) → TurnIs (now (w .entry)) base at k (now (table .entry)) log (stateOf k Phase.Seeking) r (now (table .exit))) ⌝ }
+    ensures { λ r. ⌜ ((k : List ℕ) → TurnOf (now (w .entry)) base at k (now (table .entry)) log Phase.Seeking r (now (table .exit))) ⌝ }
 {
     let mut p = at;
     loop {
@@ -188,7 +187,7 @@ pub fn seeking(w: &[u8], base: usize, at: usize, table: &mut [u32], log: Log) ->
 // Recipients, up to DATA.
 pub fn recipients(w: &[u8], base: usize, at: usize, table: &mut [u32], log: Log) -> Turn
     requires { ⌜ (base + length (now w) ≤ limit) × (at ≤ length (now w)) ⌝ }
-    ensures { λ r. ⌜ ((k : List ℕ) → TurnIs (now (w .entry)) base at k (now (table .entry)) log (stateOf k Phase.Recipient) r (now (table .exit))) ⌝ }
+    ensures { λ r. ⌜ ((k : List ℕ) → TurnOf (now (w .entry)) base at k (now (table .entry)) log Phase.Recipient r (now (table .exit))) ⌝ }
 {
     let mut p = at;
     let mut n = log;

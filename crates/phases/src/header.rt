@@ -2,10 +2,10 @@
 ghost use mathlib.Core.List.{List};
 ghost use Prim.Native.Nat.{ℕ, _+_, _≤_};
 ghost use lib.ListN.{length};
-ghost use Rattle.rules.specs.Mail.{begun, plainMail, literalBody};
+ghost use Rattle.rules.specs.Mail.{plainMail, literalBody};
 ghost use Rattle.rules.specs.Sessions.{limit};
 ghost use Rattle.reads.specs.Contracts.{Begins};
-ghost use Rattle.phases.specs.Phasing.{HeadIs, Learns, BegunIs, DeeperIs, Slots, boundaryOf, outside};
+ghost use Rattle.phases.specs.Phasing.{HeadIs, Learns, BegunIs, DeeperIs, Slots, behindOf};
 use crate::Heard;
 use crate::Phase;
 use crate::Spot;
@@ -136,7 +136,7 @@ fn behind(
     log: Log,
 ) -> Begun
     requires { ⌜ (to ≤ limit) × (level ≤ 8) × Slots (now kept) × Begins mail to ⌝ }
-    ensures { λ r. ⌜ BegunIs (begun mail (heard .encoding) (boundaryOf (now (kept .entry)) level heard) (outside (now (kept .entry)) level) to) to (now (kept .entry)) (now (table .entry)) log r (now (table .exit)) ⌝ }
+    ensures { λ r. ⌜ BegunIs (behindOf mail heard level (now (kept .entry)) to) to (now (kept .entry)) (now (table .entry)) log r (now (table .exit)) ⌝ }
 {
     let encoding = heard.encoding;
     if heard.supplied {

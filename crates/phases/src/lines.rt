@@ -3,7 +3,7 @@ ghost use mathlib.Core.List.{List};
 ghost use Prim.Native.Nat.{ℕ, _+_, _≤_};
 ghost use lib.ListN.{length};
 ghost use Rattle.rules.specs.Sessions.{limit};
-ghost use Rattle.phases.specs.Phasing.{TurnIs, HeadIs, stateOf, Slots};
+ghost use Rattle.phases.specs.Phasing.{TurnOf, HeadIs, Slots};
 use crate::Phase;
 use crate::Spot;
 use crate::Turn;
@@ -33,7 +33,7 @@ use rules::Mail;
 // Up to a line that begins 221.
 pub fn replies(w: &[u8], base: usize, at: usize, table: &mut [u32], log: Log) -> Turn
     requires { ⌜ (base + length (now w) ≤ limit) × (at ≤ length (now w)) ⌝ }
-    ensures { λ r. ⌜ ((k : List ℕ) → TurnIs (now (w .entry)) base at k (now (table .entry)) log (stateOf k Phase.Reply) r (now (table .exit))) ⌝ }
+    ensures { λ r. ⌜ ((k : List ℕ) → TurnOf (now (w .entry)) base at k (now (table .entry)) log Phase.Reply r (now (table .exit))) ⌝ }
 {
     let mut p = at;
     let mut n = log;
@@ -72,7 +72,7 @@ pub fn replies(w: &[u8], base: usize, at: usize, table: &mut [u32], log: Log) ->
 // Up to a TLS answer or a retrieval.
 pub fn statuses(w: &[u8], base: usize, at: usize, table: &mut [u32], log: Log) -> Turn
     requires { ⌜ (base + length (now w) ≤ limit) × (at ≤ length (now w)) ⌝ }
-    ensures { λ r. ⌜ ((k : List ℕ) → TurnIs (now (w .entry)) base at k (now (table .entry)) log (stateOf k Phase.Status) r (now (table .exit))) ⌝ }
+    ensures { λ r. ⌜ ((k : List ℕ) → TurnOf (now (w .entry)) base at k (now (table .entry)) log Phase.Status r (now (table .exit))) ⌝ }
 {
     let mut p = at;
     let mut n = log;
@@ -119,7 +119,7 @@ pub fn statuses(w: &[u8], base: usize, at: usize, table: &mut [u32], log: Log) -
 // Up to an append.
 pub fn commands(w: &[u8], base: usize, at: usize, table: &mut [u32], log: Log) -> Turn
     requires { ⌜ (base + length (now w) ≤ limit) × (at ≤ length (now w)) ⌝ }
-    ensures { λ r. ⌜ ((k : List ℕ) → TurnIs (now (w .entry)) base at k (now (table .entry)) log (stateOf k Phase.Command) r (now (table .exit))) ⌝ }
+    ensures { λ r. ⌜ ((k : List ℕ) → TurnOf (now (w .entry)) base at k (now (table .entry)) log Phase.Command r (now (table .exit))) ⌝ }
 {
     let mut p = at;
     let mut n = log;
@@ -187,7 +187,7 @@ pub fn offered(
 // The two bytes behind a literal.
 pub fn closing(w: &[u8], base: usize, p: usize, log: Log) -> Turn
     requires { ⌜ (base + length (now w) ≤ limit) × (p ≤ length (now w)) ⌝ }
-    ensures { λ r. ⌜ ((k t : List ℕ) → TurnIs (now (w .entry)) base p k t log (stateOf k Phase.Closing) r t) ⌝ }
+    ensures { λ r. ⌜ ((k t : List ℕ) → TurnOf (now (w .entry)) base p k t log Phase.Closing r t) ⌝ }
 {
     match two_bytes(w, p) {
         Two::Stop(_) => Turn::Stop(Spot {

@@ -5,11 +5,10 @@ ghost use mathlib.Core.List.{List};
 ghost use Prim.Native.Nat.{ℕ, _+_, _-_, _≤_};
 ghost use lib.Dec.{ltb};
 ghost use lib.ListN.{length};
-ghost use Rattle.fields.specs.Common.{part};
-ghost use Rattle.rules.specs.Mail.{rest, lastLine, skip};
+ghost use Rattle.rules.specs.Mail.{rest, skip};
 ghost use Rattle.rules.specs.Sessions.{limit};
 ghost use Rattle.reads.specs.Contracts.{Begins};
-ghost use Rattle.phases.specs.Phasing.{TurnIs, SoughtIs, Enters, LastLf, stateOf, slot, outside, Slots};
+ghost use Rattle.phases.specs.Phasing.{TurnOf, SoughtIs, Enters, LastLf, slot, outside, Slots};
 use crate::Phase;
 use crate::Spot;
 use crate::Turn;
@@ -27,7 +26,6 @@ use reads::Read;
 use reads::Two;
 use reads::hold;
 use reads::line;
-use reads::sized;
 use reads::two_bytes;
 use rules::Mail;
 
@@ -49,7 +47,7 @@ pub fn preamble(
     log: Log,
 ) -> Turn
     requires { ⌜ (base + length (now w) ≤ limit) × (p ≤ length (now w)) × (level ≤ 7) × (from ≤ base + p) × Slots (now kept) × Begins mail (base + p) ⌝ }
-    ensures { λ r. ⌜ ((t : List ℕ) → TurnIs (now (w .entry)) base p (now (kept .entry)) t log (stateOf (now (kept .entry)) (Phase.Preamble mail level from here)) r t) ⌝ }
+    ensures { λ r. ⌜ ((t : List ℕ) → TurnOf (now (w .entry)) base p (now (kept .entry)) t log (Phase.Preamble mail level from here) r t) ⌝ }
 {
     let first = level * SLOT + 1;
     let end = first + length_at(kept, level);
@@ -73,7 +71,7 @@ pub fn preamble(
 // The two bytes behind a preamble's delimiter.
 pub fn opened(w: &[u8], base: usize, p: usize, mail: Mail, level: usize, log: Log) -> Turn
     requires { ⌜ (base + length (now w) ≤ limit) × (p ≤ length (now w)) × (level ≤ 7) × Begins mail (base + p) ⌝ }
-    ensures { λ r. ⌜ ((k t : List ℕ) → TurnIs (now (w .entry)) base p k t log (stateOf k (Phase.Opened mail level)) r t) ⌝ }
+    ensures { λ r. ⌜ ((k t : List ℕ) → TurnOf (now (w .entry)) base p k t log (Phase.Opened mail level) r t) ⌝ }
 {
     match two_bytes(w, p) {
         Two::Stop(_) => Turn::Stop(Spot {
@@ -113,7 +111,7 @@ pub fn content(
     log: Log,
 ) -> Turn
     requires { ⌜ (base + length (now w) ≤ limit) × (p ≤ length (now w)) × (level ≤ 7) × (from ≤ base + p) × Slots (now kept) × Begins mail (base + p) ⌝ }
-    ensures { λ r. ⌜ TurnIs (now (w .entry)) base p (now (kept .entry)) (now (table .entry)) log (stateOf (now (kept .entry)) (Phase.Content mail encoding level from here)) r (now (table .exit)) ⌝ }
+    ensures { λ r. ⌜ TurnOf (now (w .entry)) base p (now (kept .entry)) (now (table .entry)) log (Phase.Content mail encoding level from here) r (now (table .exit)) ⌝ }
 {
     let n = length_at(kept, level);
     let first = level * SLOT + 1;
@@ -146,7 +144,7 @@ pub fn between(
     log: Log,
 ) -> Turn
     requires { ⌜ (base + length (now w) ≤ limit) × (p ≤ length (now w)) × (level ≤ 7) × Slots (now kept) × Begins mail (base + p) ⌝ }
-    ensures { λ r. ⌜ ((t : List ℕ) → TurnIs (now (w .entry)) base p (now (kept .entry)) t log (stateOf (now (kept .entry)) (Phase.Between mail level)) r t) ⌝ }
+    ensures { λ r. ⌜ ((t : List ℕ) → TurnOf (now (w .entry)) base p (now (kept .entry)) t log (Phase.Between mail level) r t) ⌝ }
 {
     match two_bytes(w, p) {
         Two::Stop(_) => Turn::Stop(Spot {
@@ -207,7 +205,7 @@ pub fn skipping(
     log: Log,
 ) -> Turn
     requires { ⌜ (base + length (now w) ≤ limit) × (at ≤ length (now w)) × (level ≤ 7) × Slots (now kept) × Begins mail (base + at) ⌝ }
-    ensures { λ r. ⌜ ((t : List ℕ) → TurnIs (now (w .entry)) base at (now (kept .entry)) t log (stateOf (now (kept .entry)) (Phase.Skipping mail level)) r t) ⌝ }
+    ensures { λ r. ⌜ ((t : List ℕ) → TurnOf (now (w .entry)) base at (now (kept .entry)) t log (Phase.Skipping mail level) r t) ⌝ }
 {
     let n = length_at(kept, 0);
     let end = 1 + n;
@@ -257,7 +255,7 @@ pub fn resting(
     log: Log,
 ) -> Turn
     requires { ⌜ (base + length (now w) ≤ limit) × (p ≤ length (now w)) × (level ≤ 7) × Begins mail (base + p) ⌝ }
-    ensures { λ r. ⌜ ((k t : List ℕ) → TurnIs (now (w .entry)) base p k t log (stateOf k (Phase.Resting mail level left)) r t) ⌝ }
+    ensures { λ r. ⌜ ((k t : List ℕ) → TurnOf (now (w .entry)) base p k t log (Phase.Resting mail level left) r t) ⌝ }
 {
     if (w.len() - p) as u64 <= left {
         return Turn::Stop(Spot {

@@ -3,7 +3,7 @@ ghost use mathlib.Core.Path.{_≡_};
 ghost use mathlib.Core.List.{List};
 ghost use Prim.Native.Nat.{ℕ, _≤_};
 ghost use Rattle.reads.specs.Contracts.{Begins};
-ghost use Rattle.phases.specs.Phasing.{overOf, onwardOf, unheard, Enters, stateOf, outside};
+ghost use Rattle.phases.specs.Phasing.{overOf, onwardOf, unheard, Enters, outside};
 ghost use Rattle.rules.specs.Mail.{afterMail, popped};
 use crate::Heard;
 use crate::Phase;

@@ -84,7 +84,7 @@ returns-4 c =
     let asked = told .before .before in
     let line = line-to (end-of asked) in
     let which = sym (told .enum-told4 .given .1) ∙ asked .second-line .ensures in
-    λ k. called .tried .ensures k _ (piece-of second (line .ends) (second-by _ line which))
+    λ k. called .tried .ensures .is k _ (piece-of second (line .ends) (second-by _ line which))
 
 -- anything else: lines up to a sender follow
 returns-5 : tie.Need-returns-5

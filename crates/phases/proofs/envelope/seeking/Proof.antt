@@ -83,7 +83,7 @@ returns-2 c =
     let from = sym (found .before .is-mail-from .ensures) ∙ found .if1 .taken in
     λ k.
     looped-turn (loop-of end .loop .inv) k _ (called .tried .result)
-    (called .tried .ensures k _ (piece-of seeking (line .ends) (seeking-from _ line from)))
+    (called .tried .ensures .is k _ (piece-of seeking (line .ends) (seeking-from _ line from)))
 
 -- it does not: fewer bytes are left behind it
 loop-less : tie.Need-loop-less Inv-loop μ-loop

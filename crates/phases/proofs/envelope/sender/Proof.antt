@@ -40,7 +40,7 @@ unfolding wants stateOf
 returns-2 c =
     let called = c .before .before in
     let line = line-to (called .before .before .before) in
-    λ k. called .tried .ensures k _ (piece-of sender (line .ends) (sender-by _ line))
+    λ k. called .tried .ensures .is k _ (piece-of sender (line .ends) (sender-by _ line))
 
 pub sender-spec : {M : Type 1} → statement M
 sender-spec =

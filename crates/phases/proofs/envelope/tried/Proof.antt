@@ -2,7 +2,6 @@
 use mathlib.Core.Path.{refl, sym, _∙_}
 use Prim.Native.Nat.{_+_, _-_, _≤_}
 use native.Mathlib.Omega.{arith}
-use Rattle.rules.specs.Smtp.{given}
 use Rattle.reads.proofs.Addresses.{from-room}
 use Rattle.windows.specs.Stands.{enter, enters}
 use Rattle.phases.specs.Phasing.{stateOf, Fits}
@@ -39,7 +38,7 @@ returns : tie.Need-returns
 unfolding stateOf enter enters Fits
 returns c =
     let none = sym (c .before .before .mail-from .ensures) ∙ c .enum-told .given .1 in
-    λ k f d. leads-still (tried-none _ d none) refl (record { is = refl; fits = tt })
+    record { is = λ k f d. leads-still (tried-none _ d none) refl (record { is = refl; fits = tt }) }
 
 -- ---- one is given: it is listed, or the table is full
 returns-2 : tie.Need-returns-2
@@ -49,9 +48,11 @@ returns-2 c =
     let given = noted .before .before .before in
     let address = sym (given .before .before .mail-from .ensures) ∙ given .o .given .1 in
     let r = noted .note .result in
-    λ k f d.
-    rw (c .onward .ensures)
-    (leads (tried-given _ d address) k _ _ r (noted .note .last .0) is.Recipient (noted .note .ensures) (record { is = refl; fits = tt }))
+    record {
+      is = λ k f d.
+          rw (c .onward .ensures)
+          (leads (tried-given _ d address) k _ _ r (noted .note .last .0) is.Recipient (noted .note .ensures) (record { is = refl; fits = tt }));
+    }
 
 pub tried-spec : {M : Type 1} → statement M
 tried-spec =
