@@ -14,6 +14,7 @@ use Rattle.events.specs.declared.Encoding.{Encoding}
 use Rattle.events.specs.declared.Encoding.the-variants.{Unsaid}
 use Rattle.events.specs.Table.{pour}
 use Rattle.events.specs.declared.Log.{Log}
+use Rattle.events.specs.declared.Outcome.{Outcome}
 use Rattle.events.specs.declared.Outcome.the-variants.{Done, NoHello, NoRecipient, OpenLiteral}
 use Rattle.fields.specs.Common.{part, unknown}
 use Rattle.fields.specs.Imap.{isAppend, appendSize, holdsColon}
@@ -25,12 +26,12 @@ use Rattle.reading.specs.Bytes.{startsWith, same}
 use Rattle.reading.specs.Reading.{aLine, bytes, crlf, clean, reach}
 use Rattle.reading.specs.Text.{text}
 use Rattle.reads.proofs.Laws.{clean-length, ends-at}
-use Rattle.reads.specs.Contracts.{Ends, Cleaned, Pair, NoPair, Full}
+use Rattle.reads.specs.Contracts.{Ends, Stops, Cleaned, Pair, NoPair, Full}
 use Rattle.reads.specs.declared.Stop.{Stop}
 use Rattle.rules.specs.Imap.{onCommand, onOffered, onClosing}
 use Rattle.rules.specs.Mail.{dotLine, hyphens, afterMail, onText, onLiteral}
 use Rattle.rules.specs.Phases as phase
-use Rattle.rules.specs.Phases.{reads, wants, then, stop}
+use Rattle.rules.specs.Phases.{State, reads, wants, then, stop}
 use Rattle.rules.specs.Pop3.{onStatus}
 use Rattle.rules.specs.Sessions.{reacts}
 use Rattle.rules.specs.Smtp.{onHello, given, bySecond, onSecond, tried, onUser, onPassword, onSender, onSeeking, byRecipient, onRecipient, onReply}
@@ -40,11 +41,14 @@ use Rattle.windows.proofs.Blindly.{literal-cut}
 use Rattle.windows.proofs.Courses.{taking, under-literal}
 use Rattle.windows.proofs.Piecemeal.{Comes, comes}
 use Rattle.windows.proofs.Sized.{by-bytes}
-use Rattle.windows.specs.Stands.{Stand, fresh, inLiteral}
+use Rattle.windows.specs.Stands.{Stand, fresh, enter, enters, inLiteral}
 use Rattle.windows.specs.Windows.{over, keeps, landed, lands}
-use Rattle.phases.specs.Phasing.{stateOf, Fits, Piece, Leaves, Goes}
-use Rattle.phases.specs.declared.Phase.the-variants as over-at
-use Rattle.phases.proofs.Turning.{to-end, piece-of, leads-full}
+use Rattle.phases.specs.Phasing.{stateOf, Fits, Enters, Piece, Leaves, Goes, TurnIs, TurnOf, overOf, Lists, LinedTo, LinedLeft}
+use Rattle.phases.specs.declared.Phase.{Phase}
+use Rattle.phases.specs.declared.Phase.the-variants as is
+use Rattle.phases.specs.declared.Turn.{Turn}
+use Rattle.phases.specs.declared.Turn.the-variants as turn
+use Rattle.phases.proofs.Turning.{to-end, piece-of, waits-whole, leads-written, leads-full, Looped, looped-on, looped-leaves, looped-turn}
 
 -- ---- the first line
 pub hello-yes : (at : ℕ) (l : List ℕ) → startsWithHelo l ≡ true → reacts phase.hello at l ≡ then [] phase.second
@@ -175,33 +179,71 @@ module _ (base : ℕ) {w : List ℕ} {p e : ℕ} (m : Mail) (c : Encoding) (d : 
   unfolding reacts onText
   text-line h = rw (h, d .long)
 
--- ---- a line is listed before any test of it: where it finds no slot, the session is over
-module _ {w : List ℕ} {base p end e : ℕ} (d : Cleaned w p end e) {k t : List ℕ} {log : Log} {a : Stop} {u : List ℕ} where
-  pub reply-full : Full t log (ev serverLine (base + p) (end - p) Unsaid ∷ []) a u
-      → Leaves w base p k t log (fresh (reads phase.reply)) (record { phase = over-at.Over (a .result) (a .place); taken = e; log = a .log }) u
-  unfolding reacts onReply wants
-  reply-full n =
-      let l = part w p e in
-      leads-full (piece-of phase.reply (d .ends) refl)
-      (cond (startsWith (text "221") (clean l)) (stop [] Done (base + p + length l)) (then [] phase.reply) .events)
-      (rw (clean-length d)) n
+-- ---- phases that list each of their lines, before any test of it
+pub reply-lists : Lists is.Reply serverLine phase.reply
+unfolding reacts onReply wants stateOf Fits enter enters
+reply-lists = record {
+  stands = λ k. refl;
+  enters = λ k to. record { is = refl; fits = tt };
+  wants = refl;
+  behind = λ at l. cond (startsWith (text "221") (clean l)) (stop [] Done (at + length l)) (then [] phase.reply) .events;
+  is = λ at l. refl;
+}
 
-  pub status-full : Full t log (ev serverLine (base + p) (end - p) Unsaid ∷ []) a u
-      → Leaves w base p k t log (fresh (reads phase.status)) (record { phase = over-at.Over (a .result) (a .place); taken = e; log = a .log }) u
-  unfolding reacts onStatus wants
-  status-full n =
-      leads-full (piece-of phase.status (d .ends) refl)
-      (cond (stlsAnswer (clean (part w p e))) (stop [] Done (base + p + length (part w p e)))
-      (cond (retrAnswer (clean (part w p e))) (then [] (phase.head Pop3 unknown [])) (then [] phase.status)) .events)
-      (rw (clean-length d)) n
+pub status-lists : Lists is.Status serverLine phase.status
+unfolding reacts onStatus wants stateOf Fits enter enters
+status-lists = record {
+  stands = λ k. refl;
+  enters = λ k to. record { is = refl; fits = tt };
+  wants = refl;
+  behind = λ at l.
+      cond (stlsAnswer (clean l)) (stop [] Done (at + length l))
+      (cond (retrAnswer (clean l)) (then [] (phase.head Pop3 unknown [])) (then [] phase.status)) .events;
+  is = λ at l. refl;
+}
 
-  pub command-full : Full t log (ev clientLine (base + p) (end - p) Unsaid ∷ []) a u
-      → Leaves w base p k t log (fresh (reads phase.command)) (record { phase = over-at.Over (a .result) (a .place); taken = e; log = a .log }) u
-  unfolding reacts onCommand wants
-  command-full n =
-      leads-full (piece-of phase.command (d .ends) refl)
-      (cond (isAppend (clean (part w p e))) (then [] (phase.offered (appendSize (clean (part w p e))))) (then [] phase.command) .events)
-      (rw (clean-length d)) n
+pub command-lists : Lists is.Command clientLine phase.command
+unfolding reacts onCommand wants stateOf Fits enter enters
+command-lists = record {
+  stands = λ k. refl;
+  enters = λ k to. record { is = refl; fits = tt };
+  wants = refl;
+  behind = λ at l. cond (isAppend (clean l)) (then [] (phase.offered (appendSize (clean l)))) (then [] phase.command) .events;
+  is = λ at l. refl;
+}
+
+-- where no line is finished, or its event finds no slot, such a phase is left
+module _ {w : List ℕ} {base p : ℕ} {ph : Phase} {kind : ℕ} {t : List ℕ} {log : Log} where
+  pub lined-short : {o : Outcome} → Stops aLine w p o → p ≤ length w → LinedLeft w base p ph kind t log (turn.Stop (record { phase = ph; taken = p; log = log })) t
+  lined-short {o} d h = record { is = λ so l k. rw (l .stands k) (waits-whole {o = o} ph so (l .stands k) (rw (l .wants) d) h (l .enters k (base + p) .fits)) }
+
+  pub lined-full : {end e : ℕ} {a : Stop} {u : List ℕ} {r : Turn} → Cleaned w p end e → Full t log (ev kind (base + p) (end - p) Unsaid ∷ []) a u → r ≡ overOf a e
+      → LinedLeft w base p ph kind t log r u
+  lined-full {e = e} d n q = record {
+    is = λ so l k.
+        rw (q, l .stands k)
+        (leads-full (piece-of so (rw (l .wants) (d .ends)) refl) (l .behind (base + p) (part w p e)) (l .is (base + p) (part w p e)) (rw (clean-length d) at n));
+  }
+
+-- a loop over the lines of such a phase: what is left at p is what was left at a
+module _ {w : List ℕ} {base a : ℕ} {t₀ : List ℕ} {log₀ : Log} {so : phase.Phase} {p : ℕ} {t : List ℕ} {log : Log} {ph : Phase} {kind : ℕ}
+    (c : Looped w base a t₀ log₀ (fresh (reads so)) p t log) (l : Lists ph kind so) where
+  -- the phase is left
+  pub lined-left : {r : Turn} {u : List ℕ} → LinedLeft w base p ph kind t log r u → (k : List ℕ) → TurnOf w base a k t₀ log₀ ph r u
+  lined-left {r} {u} d k =
+      let here : TurnIs w base p k t log (fresh (reads so)) r u = rw (l .stands k) at (d .is so l k) in
+      rw (l .stands k) (looped-turn c k u r here)
+
+  module _ {end e : ℕ} {next : Log} {u : List ℕ} (d : LinedTo w base p kind t log end e next u) where
+    -- behind a line that is listed: another phase
+    pub lined-leads : {st : State} {there : Phase} → reacts so (base + p) (part w p e) ≡ record { events = ev kind (base + p) (end - p) Unsaid ∷ []; next = st }
+        → (k : List ℕ) → Enters k st (base + e) there → Leaves w base a k t₀ log₀ (stateOf k ph) (record { phase = there; taken = e; log = next }) u
+    lined-leads q k g = rw (l .stands k) (looped-leaves c (leads-written (piece-of so (rw (l .wants) (d .line .ends)) q) (d .written) g))
+
+    -- or another line
+    pub lined-on : reacts so (base + p) (part w p e) ≡ then (ev kind (base + p) (end - p) Unsaid ∷ []) so → length u ≡ length t
+        → Looped w base a t₀ log₀ (fresh (reads so)) e u next
+    lined-on q n = looped-on c (piece-of so (rw (l .wants) (d .line .ends)) q) (d .written) (sym (l .enters [] (base + e) .is) ∙ l .stands []) n
 
 -- ---- a literal: left + 1 bytes, or as many of them as are shown
 pub literal-piece : (base : ℕ) {w : List ℕ} {p : ℕ} (c : Encoding) (from left : ℕ) → p + left + 1 ≤ length w
@@ -218,7 +260,7 @@ literal-piece base {w} {p} c from left h =
     }
 
 pub literal-waits : {w : List ℕ} {base p : ℕ} {k t : List ℕ} {log : Log} (c : Encoding) (from left : ℕ) → p ≤ length w → length w - p ≤ left → from ≤ base + p
-    → Goes w base p k t log (inLiteral c from left) (record { phase = over-at.Literal c from (left - (length w - p)); taken = length w; log = log }) t
+    → Goes w base p k t log (inLiteral c from left) (record { phase = is.Literal c from (left - (length w - p)); taken = length w; log = log }) t
 unfolding stateOf Fits lands pour landed keeps over
 literal-waits {w} {base} {p} {k} {t} {log} c from left h g f =
     let n : length (drop p w) ≡ length w - p = length-drop p w in

@@ -7,22 +7,24 @@ use mathlib.Core.Option.{Option, none, some}
 use Prim.Native.Nat.{ℕ, zero, suc, _+_, _-_, _*_, _≤_, _<_}
 use lib.Dec.{eqb}
 use lib.ListN.{length, take, drop, getD}
-use Rattle.events.specs.Events.{resultNumber}
+use Rattle.events.specs.Events.{ev, resultNumber}
 use Rattle.events.specs.declared.Encoding.{Encoding}
 use Rattle.events.specs.declared.Encoding.the-variants.{Unsaid}
+use Rattle.events.specs.declared.Event.{Event}
 use Rattle.events.specs.declared.Log.{Log}
 use Rattle.events.specs.declared.Outcome.{Outcome}
 use Rattle.fields.specs.Common.{Known, part, scanned}
 use Rattle.reading.specs.Bytes.{endsWith}
-use Rattle.reading.specs.Reading.{crlf, dash}
-use Rattle.reads.specs.Contracts.{Notes, Begins}
+use Rattle.reading.specs.Reading.{aLine, clean, crlf, dash}
+use Rattle.reads.specs.Contracts.{Cleaned, Written, Notes, Begins}
 use Rattle.reads.specs.declared.Noted.{Noted}
 use Rattle.reads.specs.declared.Noted.the-variants as noted
 use Rattle.reads.specs.declared.Stop.{Stop}
 use Rattle.rules.specs.Machine.{Reaction, stay, before}
 use Rattle.rules.specs.Mail.{begun}
 use Rattle.rules.specs.Phases as phase
-use Rattle.rules.specs.Phases.{State, reads, ends}
+use Rattle.rules.specs.Phases.{State, reads, ends, wants}
+use Rattle.rules.specs.Sessions.{reacts}
 use Rattle.rules.specs.declared.Mail.{Mail}
 use Rattle.windows.specs.Pieces.{word, pieceOf, isMark}
 use Rattle.windows.specs.Stands.{Stand, fresh, inPreamble, inContent, inLiteral, enter, entered, goesOn, takes, does, clipped, pieces}
@@ -34,6 +36,8 @@ use Rattle.phases.specs.declared.Spot.{Spot}
 use Rattle.phases.specs.declared.Turn.{Turn}
 use Rattle.phases.specs.declared.Turn.the-variants as turn
 use Rattle.phases.specs.declared.header.Begun.{Begun}
+use Rattle.phases.specs.declared.lines.Lined.{Lined}
+use Rattle.phases.specs.declared.lines.Lined.the-variants as lined
 use Rattle.phases.specs.declared.parts.Sought.{Sought}
 use Rattle.phases.specs.declared.parts.Sought.the-variants as sought
 
@@ -181,6 +185,29 @@ endedOf o q p log = turn.Stop (record { phase = is.Over o q; taken = cond (eqb (
 pub record HeadIs (w : List ℕ) (base p : ℕ) (k t : List ℕ) (log : Log) (ph : Phase) (r : Turn) (k' u : List ℕ) : Type 0 where
   pub slots : Slots k'
   pub is : TurnIs w base p k' t log (stateOf k ph) r u
+
+-- ---- lines that are listed
+
+-- a phase that lists each of its lines, clean, under a kind
+pub record Lists (ph : Phase) (kind : ℕ) (so : phase.Phase) : Type 0 where
+  pub stands : (k : List ℕ) → stateOf k ph ≡ fresh (reads so)
+  pub enters : (k : List ℕ) (to : ℕ) → Enters k (reads so) to ph
+  pub wants : wants so ≡ aLine
+  pub behind : ℕ → List ℕ → List Event
+  pub is : (at : ℕ) (l : List ℕ) → reacts so at l .events ≡ ev kind at (length (clean l)) Unsaid ∷ behind at l
+
+-- a line is read, its clean part up to `end`, and its event is written
+pub record LinedTo (w : List ℕ) (base p kind : ℕ) (t : List ℕ) (log : Log) (end e : ℕ) (next : Log) (u : List ℕ) : Type 0 where
+  pub line : Cleaned w p end e
+  pub written : Written t log (ev kind (base + p) (end - p) Unsaid ∷ []) next u
+
+-- such a phase is left: no line is finished, or its event finds no slot
+pub record LinedLeft (w : List ℕ) (base p : ℕ) (ph : Phase) (kind : ℕ) (t : List ℕ) (log : Log) (r : Turn) (u : List ℕ) : Type 0 where
+  pub is : (so : phase.Phase) → Lists ph kind so → (k : List ℕ) → TurnOf w base p k t log ph r u
+
+abbrev pub LinedIs : List ℕ → ℕ → ℕ → Phase → ℕ → List ℕ → Log → Lined → List ℕ → Type 0
+LinedIs w base p ph kind t log (lined.To end e next) u = LinedTo w base p kind t log end e next u
+LinedIs w base p ph kind t log (lined.Left r) u = LinedLeft w base p ph kind t log r u
 
 -- ---- headers
 

@@ -3,7 +3,7 @@ ghost use mathlib.Core.List.{List};
 ghost use Prim.Native.Nat.{ℕ, _+_, _≤_};
 ghost use lib.ListN.{length};
 ghost use Rattle.rules.specs.Sessions.{limit};
-ghost use Rattle.phases.specs.Phasing.{TurnOf, HeadIs, Slots};
+ghost use Rattle.phases.specs.Phasing.{TurnOf, LinedIs, HeadIs, Slots};
 use crate::Phase;
 use crate::Spot;
 use crate::Turn;
@@ -30,6 +30,12 @@ use reads::note;
 use reads::two_bytes;
 use rules::Mail;
 
+// A line listed clean: where its clean part ends, and where the line does; or the phase is left.
+pub enum Lined {
+    To(usize, usize, Log),
+    Left(Turn),
+}
+
 // Up to a line that begins 221.
 pub fn replies(w: &[u8], base: usize, at: usize, table: &mut [u32], log: Log) -> Turn
     requires { ⌜ (base + length (now w) ≤ limit) × (at ≤ length (now w)) ⌝ }
@@ -38,32 +44,20 @@ pub fn replies(w: &[u8], base: usize, at: usize, table: &mut [u32], log: Log) ->
     let mut p = at;
     let mut n = log;
     loop {
-        match clean_line(w, p) {
-            Clean::Stop(_) => {
-                return Turn::Stop(Spot {
-                    phase: Phase::Reply,
-                    taken: p,
-                    log: n,
-                });
+        match note_line(w, base, p, Phase::Reply, SERVER_LINE, table, n) {
+            Lined::Left(turn) => {
+                return turn;
             }
-            Clean::To(end, e) => {
-                match note(table, n, SERVER_LINE, base + p, end - p, Encoding::Unsaid) {
-                    Noted::Stopped(a) => {
-                        return over(a, e);
-                    }
-                    Noted::Written(next) => {
-                        if reading::starts_with(&w[p..end], b"221") {
-                            let phase = Phase::Over(Outcome::Done, base + e);
-                            return Turn::On(Spot {
-                                phase,
-                                taken: e,
-                                log: next,
-                            });
-                        }
-                        p = e;
-                        n = next;
-                    }
+            Lined::To(end, e, next) => {
+                if reading::starts_with(&w[p..end], b"221") {
+                    return Turn::On(Spot {
+                        phase: Phase::Over(Outcome::Done, base + e),
+                        taken: e,
+                        log: next,
+                    });
                 }
+                p = e;
+                n = next;
             }
         }
     }
@@ -77,40 +71,27 @@ pub fn statuses(w: &[u8], base: usize, at: usize, table: &mut [u32], log: Log) -
     let mut p = at;
     let mut n = log;
     loop {
-        match clean_line(w, p) {
-            Clean::Stop(_) => {
-                return Turn::Stop(Spot {
-                    phase: Phase::Status,
-                    taken: p,
-                    log: n,
-                });
+        match note_line(w, base, p, Phase::Status, SERVER_LINE, table, n) {
+            Lined::Left(turn) => {
+                return turn;
             }
-            Clean::To(end, e) => {
-                match note(table, n, SERVER_LINE, base + p, end - p, Encoding::Unsaid) {
-                    Noted::Stopped(a) => {
-                        return over(a, e);
-                    }
-                    Noted::Written(next) => {
-                        if stls_answer(&w[p..end]) {
-                            let phase = Phase::Over(Outcome::Done, base + e);
-                            return Turn::On(Spot {
-                                phase,
-                                taken: e,
-                                log: next,
-                            });
-                        }
-                        if retr_answer(&w[p..end]) {
-                            let phase = Phase::Head(Mail::Pop3, unheard(), 0);
-                            return Turn::On(Spot {
-                                phase,
-                                taken: e,
-                                log: next,
-                            });
-                        }
-                        p = e;
-                        n = next;
-                    }
+            Lined::To(end, e, next) => {
+                if stls_answer(&w[p..end]) {
+                    return Turn::On(Spot {
+                        phase: Phase::Over(Outcome::Done, base + e),
+                        taken: e,
+                        log: next,
+                    });
                 }
+                if retr_answer(&w[p..end]) {
+                    return Turn::On(Spot {
+                        phase: Phase::Head(Mail::Pop3, unheard(), 0),
+                        taken: e,
+                        log: next,
+                    });
+                }
+                p = e;
+                n = next;
             }
         }
     }
@@ -124,32 +105,48 @@ pub fn commands(w: &[u8], base: usize, at: usize, table: &mut [u32], log: Log) -
     let mut p = at;
     let mut n = log;
     loop {
-        match clean_line(w, p) {
-            Clean::Stop(_) => {
-                return Turn::Stop(Spot {
-                    phase: Phase::Command,
-                    taken: p,
-                    log: n,
-                });
+        match note_line(w, base, p, Phase::Command, CLIENT_LINE, table, n) {
+            Lined::Left(turn) => {
+                return turn;
             }
-            Clean::To(end, e) => {
-                match note(table, n, CLIENT_LINE, base + p, end - p, Encoding::Unsaid) {
-                    Noted::Stopped(a) => {
-                        return over(a, e);
-                    }
-                    Noted::Written(next) => {
-                        if append(&w[p..end]) {
-                            let phase = Phase::Offered(append_size(&w[p..end]));
-                            return Turn::On(Spot {
-                                phase,
-                                taken: e,
-                                log: next,
-                            });
-                        }
-                        p = e;
-                        n = next;
-                    }
+            Lined::To(end, e, next) => {
+                if append(&w[p..end]) {
+                    return Turn::On(Spot {
+                        phase: Phase::Offered(append_size(&w[p..end])),
+                        taken: e,
+                        log: next,
+                    });
                 }
+                p = e;
+                n = next;
+            }
+        }
+    }
+}
+
+// A clean line, listed. The phase, which lists each of its lines, is left where none is finished, or where the table is full.
+fn note_line(
+    w: &[u8],
+    base: usize,
+    p: usize,
+    phase: Phase,
+    kind: u32,
+    table: &mut [u32],
+    log: Log,
+) -> Lined
+    requires { ⌜ (base + length (now w) ≤ limit) × (p ≤ length (now w)) ⌝ }
+    ensures { λ r. ⌜ LinedIs (now (w .entry)) base p phase kind (now (table .entry)) log r (now (table .exit)) ⌝ }
+{
+    match clean_line(w, p) {
+        Clean::Stop(_) => Lined::Left(Turn::Stop(Spot {
+            phase,
+            taken: p,
+            log,
+        })),
+        Clean::To(end, e) => {
+            match note(table, log, kind, base + p, end - p, Encoding::Unsaid) {
+                Noted::Stopped(a) => Lined::Left(over(a, e)),
+                Noted::Written(next) => Lined::To(end, e, next),
             }
         }
     }

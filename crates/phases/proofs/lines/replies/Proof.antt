@@ -4,12 +4,11 @@ use Prim.Native.Nat.{_-_}
 use native.Mathlib.Omega.{arith}
 use lib.ListN.{length}
 use Rattle.reads.specs.Contracts.{Cleaned}
-use Rattle.rules.specs.Phases.{reads, reply, wants}
-use Rattle.windows.specs.Stands.{fresh, enter, enters}
+use Rattle.rules.specs.Phases.{reads, reply}
+use Rattle.windows.specs.Stands.{fresh, enter}
 use Rattle.phases.specs.Phasing.{stateOf, Fits}
-use Rattle.phases.specs.declared.Phase.the-variants as is
-use Rattle.phases.proofs.Reactions.{reply-full, reply-last, reply-on}
-use Rattle.phases.proofs.Turning.{piece-of, waits-whole, leads-written, Looped, not-yet, looped-on, looped-leaves, looped-goes}
+use Rattle.phases.proofs.Reactions.{reply-last, reply-on, reply-lists, lined-left, lined-leads, lined-on}
+use Rattle.phases.proofs.Turning.{Looped, not-yet}
 use borrow.Author.Needs.{needs}
 use Rattle.phases.proofs.lines.replies.Statement.{statement}
 use Rattle.phases.proofs.lines.replies.Tie as tie
@@ -20,112 +19,66 @@ Inv-loop w base at table₀ p₀ n₀ t13 table p n = Looped w base at table₀ 
 abbrev μ-loop : tie.MeasureT-loop
 μ-loop w base at table₀ p₀ n₀ t13 table p n = length w - p
 
--- ---- the loop
-abbrev start : tie.At-loop Inv-loop μ-loop → tie.Start Inv-loop μ-loop
-start c = c .before .before .before
-
--- nothing is read yet
+-- ---- the loop: nothing is read yet
 loop-holds : tie.Need-loop-holds Inv-loop μ-loop
 loop-holds c = not-yet (c .before .before .pre .1)
 
 -- p lies in the window
-clean-line-requires : tie.Need-clean-line-requires Inv-loop μ-loop
-clean-line-requires c κs = c .loop .inv .came .within
+note-line-requires : tie.Need-note-line-requires Inv-loop μ-loop
+note-line-requires c κs = (c .before .before .before .before .pre .0, c .before .loop .inv .came .within)
 
--- no line is finished: the window is over
+-- no line is finished, or the table is full
 returns : tie.Need-returns Inv-loop μ-loop
-unfolding wants stateOf Fits
 returns c =
-    let called = c .before .before in
-    let inv = called .before .loop .inv in
-    λ k. looped-goes inv (waits-whole is.Reply reply refl (rw (c .enum-told .given .1) at (called .clean-line .ensures)) (inv .came .within) tt)
+    let called = c .before .before .before .before .before in
+    lined-left (called .before .before .loop .inv) reply-lists (rw (c .before .turn .given .1) at (called .note-line .ensures))
 
--- ---- a line that ends at e, its clean part at `end`
-abbrev loop-of : tie.After-end Inv-loop μ-loop → tie.At-loop Inv-loop μ-loop
-loop-of c = c .before .before .before
-
+-- ---- a line that ends at e, its clean part at `end`, is listed
 line-to : (c : tie.After-end Inv-loop μ-loop) →
-    let loop = loop-of c in
-    Cleaned (start loop .args .w .now) (loop .loop .p) (c .end .given .0 .0) (c .end .given .0 .1 .0)
-line-to c = rw (c .end .given .1) at (c .before .before .clean-line .ensures)
-
--- it begins before the limit
-add-note : tie.Need-add-note Inv-loop μ-loop
-add-note c = let line = line-to (c .before .before) in omega (arith, line .ends .on, line .ends .within)
-
--- its clean part ends behind p
-sub-note : tie.Need-sub-note Inv-loop μ-loop
-sub-note c = line-to (c .before .before) .from
-
--- where it begins and how long it is fit a slot of the table
-note-requires : tie.Need-note-requires Inv-loop μ-loop
-note-requires c κs =
-    let line = line-to (c .before .before) in
-    (omega (arith, line .ends .on, line .ends .within), omega (arith, line .within, line .ends .within))
-
--- ---- it is noted
-abbrev line-of : tie.After-note Inv-loop μ-loop → tie.After-end Inv-loop μ-loop
-line-of c = c .before .before .before
-
--- the table is full
-returns-2 : tie.Need-returns-2 Inv-loop μ-loop
-unfolding stateOf
-returns-2 c =
-    let stopped = c .before .before in
-    let noted = stopped .before .before .before .before in
-    let inv = loop-of (line-of noted) .loop .inv in
-    let unwritten = rw (stopped .a .given .1) at (noted .note .ensures) in
-    λ k. rw (c .over .ensures) (looped-leaves inv (reply-full (line-to (line-of noted)) unwritten))
-
--- it is written
-abbrev noted-of : tie.After-known-told3 Inv-loop μ-loop → tie.After-note Inv-loop μ-loop
-noted-of c = c .before .before .before .before .before
+    let loop = c .before .before .before .before .before .before in
+    Cleaned (loop .before .before .before .args .w .now) (loop .loop .p) (c .end .given .0 .0) (c .end .given .0 .1 .0)
+line-to c =
+    let called = c .before .before .before .before in
+    (rw (c .end .given .1) at (called .note-line .ensures)) .line
 
 -- what is searched for 221: it ends behind p
 sub-starts-with : tie.Need-sub-starts-with Inv-loop μ-loop
-sub-starts-with c = line-to (line-of (noted-of c)) .from
+sub-starts-with c = line-to (c .before) .from
 
 -- so that it is a part of the window
 part-starts-with-start : tie.Need-part-starts-with-start Inv-loop μ-loop
-part-starts-with-start c = line-to (line-of (noted-of c)) .from
+part-starts-with-start c = line-to (c .before) .from
 
 -- and not behind its end
 part-starts-with-end : tie.Need-part-starts-with-end Inv-loop μ-loop
-part-starts-with-end c = let line = line-to (line-of (noted-of c)) in omega (arith, line .within, line .ends .within)
+part-starts-with-end c = let line = line-to (c .before) in omega (arith, line .within, line .ends .within)
 
 -- it begins 221: it ends before the limit
-add-t31 : tie.Need-add-t31 Inv-loop μ-loop
-add-t31 c = let line = line-to (line-of (noted-of (c .before .before .before .before))) in omega (arith, line .ends .on, line .ends .within)
+add-t25 : tie.Need-add-t25 Inv-loop μ-loop
+add-t25 c = let line = line-to (c .before .before .before .before .before) in omega (arith, line .ends .on, line .ends .within)
 
 -- and the session is over
-returns-3 : tie.Need-returns-3 Inv-loop μ-loop
-unfolding wants stateOf enter enters Fits
-returns-3 c =
-    let asked = c .before in
-    let told = asked .before .before .before in
-    let noted = told .before .before .before .before .before in
-    let inv = loop-of (line-of noted) .loop .inv in
-    let line = line-to (line-of noted) in
-    let written = rw (told .before .next .given .1) at (noted .note .ensures) in
-    let last = sym (asked .starts-with .ensures) ∙ c .if1 .taken in
-    λ k. looped-leaves inv (leads-written (piece-of reply (line .ends) (reply-last _ line last)) written (record { is = refl; fits = tt }))
+returns-2 : tie.Need-returns-2 Inv-loop μ-loop
+unfolding stateOf enter Fits
+returns-2 c =
+    let listed = c .before .before .before .before .before in
+    let called = listed .before .before .before .before in
+    let line = rw (listed .end .given .1) at (called .note-line .ensures) in
+    let last = sym (c .before .starts-with .ensures) ∙ c .if1 .taken in
+    λ k. lined-leads (called .before .before .loop .inv) reply-lists line (reply-last _ (line .line) last) k (record { is = refl; fits = tt })
 
 -- fewer bytes are left behind it
 loop-less : tie.Need-loop-less Inv-loop μ-loop
-loop-less c = let line = line-to (line-of (noted-of (c .before .before .before .before))) in omega (arith, line .ends .on, line .ends .within)
+loop-less c = let line = line-to (c .before .before .before .before .before) in omega (arith, line .ends .on, line .ends .within)
 
 -- it does not: another line
 loop-again : tie.Need-loop-again Inv-loop μ-loop
-unfolding wants enter enters
 loop-again c =
-    let asked = c .before in
-    let told = asked .before .before .before in
-    let noted = told .before .before .before .before .before in
-    let inv = loop-of (line-of noted) .loop .inv in
-    let line = line-to (line-of noted) in
-    let written = rw (told .before .next .given .1) at (noted .note .ensures) in
-    let other = sym (asked .starts-with .ensures) ∙ c .if1 .left in
-    looped-on inv (piece-of reply (line .ends) (reply-on _ line other)) written refl (noted .note .kept .0)
+    let listed = c .before .before .before .before .before in
+    let called = listed .before .before .before .before in
+    let line = rw (listed .end .given .1) at (called .note-line .ensures) in
+    let other = sym (c .before .starts-with .ensures) ∙ c .if1 .left in
+    lined-on (called .before .before .loop .inv) reply-lists line (reply-on _ (line .line) other) (called .note-line .kept .1 .1 .1 .1 .1 .0)
 
 pub replies-spec : {M : Type 1} → statement M
 replies-spec =
@@ -134,26 +87,18 @@ replies-spec =
     Inv-loop
     μ-loop
     loop-holds
-    clean-line-requires
+    note-line-requires
     (λ c. search needs)
     (λ c. search needs)
     returns
-    (λ c. search needs)
-    add-note
-    sub-note
-    note-requires
-    (λ c. search needs)
-    (λ c κs. search needs)
-    (λ c. search needs)
-    returns-2
     (λ c. search needs)
     sub-starts-with
     part-starts-with-start
     part-starts-with-end
     (λ c. search needs)
     (λ c κs. search needs)
-    add-t31
+    add-t25
     (λ c. search needs)
-    returns-3
+    returns-2
     loop-less
     loop-again)

@@ -1,0 +1,68 @@
+-- `phases::lines::note_line` meets its contract: a clean line, and its event. Assumes nothing.
+use native.Mathlib.Omega.{arith}
+use borrow.Author.Needs.{needs}
+use Rattle.reads.specs.Contracts.{Cleaned}
+use Rattle.phases.proofs.Reactions.{lined-short, lined-full}
+use Rattle.phases.proofs.lines.note_line.Statement.{statement}
+use Rattle.phases.proofs.lines.note_line.Tie as tie
+
+-- ---- a line that ends at e, its clean part at `end`
+abbrev start : tie.After-end → tie.Start
+start c = c .before .before .before .before .before
+
+line-to : (c : tie.After-end) →
+    let a = start c .args in
+    Cleaned (a .w .now) (a .p) (c .end .given .0 .0) (c .end .given .0 .1 .0)
+line-to c = rw (c .end .given .1) at (c .before .before .clean-line .ensures)
+
+-- it begins before the limit
+add-note : tie.Need-add-note
+add-note c = let line = line-to (c .before .before) in omega (arith, line .ends .on, line .ends .within)
+
+-- its clean part ends behind p
+sub-note : tie.Need-sub-note
+sub-note c = line-to (c .before .before) .from
+
+-- where it begins and how long it is fit a slot of the table
+note-requires : tie.Need-note-requires
+note-requires c κs =
+    let line = line-to (c .before .before) in
+    (omega (arith, line .ends .on, line .ends .within), omega (arith, line .within, line .ends .within))
+
+-- ---- no line is finished: the window is over
+returns : tie.Need-returns
+returns c =
+    let called = c .before .before in
+    lined-short (rw (c .enum-told .given .1) at (called .clean-line .ensures)) (called .before .before .before .pre .1)
+
+-- the table is full: the session is over
+returns-2 : tie.Need-returns-2
+returns-2 c =
+    let stopped = c .before .before in
+    let noted = stopped .before .before .before .before in
+    lined-full (line-to (noted .before .before .before)) (rw (stopped .a .given .1) at (noted .note .ensures)) (c .over .ensures)
+
+-- the line is listed
+returns-3 : tie.Need-returns-3
+returns-3 c =
+    let noted = c .before .before .before .before .before in
+    record { line = line-to (noted .before .before .before); written = rw (c .before .next .given .1) at (noted .note .ensures) }
+
+pub note-line-spec : {M : Type 1} → statement M
+note-line-spec =
+    tie.close
+    (tie.spec
+    (λ c κs. search needs)
+    (λ c. search needs)
+    (λ c. search needs)
+    add-note
+    sub-note
+    note-requires
+    (λ c. search needs)
+    (λ c κs. search needs)
+    (λ c. search needs)
+    returns
+    (λ c. search needs)
+    returns-2
+    (λ c. search needs)
+    returns-3)
