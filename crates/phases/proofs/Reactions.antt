@@ -26,7 +26,9 @@ use Rattle.reading.specs.Bytes.{startsWith, same}
 use Rattle.reading.specs.Reading.{aLine, bytes, crlf, clean, reach}
 use Rattle.reading.specs.Text.{text}
 use Rattle.reads.proofs.Laws.{clean-length, ends-at}
-use Rattle.reads.specs.Contracts.{Ends, Stops, Cleaned, Pair, NoPair, Full}
+use Rattle.reads.specs.Contracts.{Ends, Stops, Cleaned, Pair, NoPair, Stopped, Full, Notes}
+use Rattle.reads.specs.declared.Noted.{Noted}
+use Rattle.reads.specs.declared.Noted.the-variants as noted
 use Rattle.reads.specs.declared.Stop.{Stop}
 use Rattle.rules.specs.Imap.{onCommand, onOffered, onClosing}
 use Rattle.rules.specs.Mail.{dotLine, hyphens, afterMail, onText, onLiteral}
@@ -43,12 +45,12 @@ use Rattle.windows.proofs.Piecemeal.{Comes, comes}
 use Rattle.windows.proofs.Sized.{by-bytes}
 use Rattle.windows.specs.Stands.{Stand, fresh, enter, enters, inLiteral}
 use Rattle.windows.specs.Windows.{over, keeps, landed, lands}
-use Rattle.phases.specs.Phasing.{stateOf, Fits, Enters, Piece, Leaves, Goes, TurnIs, TurnOf, overOf, Lists, LinedTo, LinedLeft}
+use Rattle.phases.specs.Phasing.{stateOf, Fits, Enters, Piece, Leaves, Goes, TurnIs, TurnOf, overOf, RecipientIs, Lists, LinedTo, LinedLeft}
 use Rattle.phases.specs.declared.Phase.{Phase}
 use Rattle.phases.specs.declared.Phase.the-variants as is
 use Rattle.phases.specs.declared.Turn.{Turn}
 use Rattle.phases.specs.declared.Turn.the-variants as turn
-use Rattle.phases.proofs.Turning.{to-end, piece-of, waits-whole, leads-written, leads-full, Looped, looped-on, looped-leaves, looped-turn}
+use Rattle.phases.proofs.Turning.{to-end, piece-of, waits-whole, leads-written, leads-full, leads-still, leads, Looped, looped-on, looped-leaves, looped-turn}
 
 -- ---- the first line
 pub hello-yes : (at : ℕ) (l : List ℕ) → startsWithHelo l ≡ true → reacts phase.hello at l ≡ then [] phase.second
@@ -68,6 +70,21 @@ module _ {w : List ℕ} {base p : ℕ} {f : Stand} {e : ℕ} (l : List ℕ) (d :
   pub tried-given : {o n : ℕ} → mailFrom l ≡ Given o n → Piece w base p f e (then (ev event.sender (base + p + o) n Unsaid ∷ []) phase.recipient)
   unfolding given
   tried-given h = rw h at d
+
+-- ---- a line that is read as a recipient
+module _ {w : List ℕ} {base p end : ℕ} {t : List ℕ} {log : Log} where
+  pub recipient-none : {a : Stop} → rcptTo (part w p end) ≡ Missing → Stopped NoRecipient (base + p) log a → RecipientIs w base p end t log (noted.Stopped a) t
+  unfolding byRecipient stateOf enter Fits
+  recipient-none h s = record {
+    is = λ e. record { is = λ k f d. rw (s .result, s .place, s .log) (leads-still (rw h at d) refl (record { is = refl; fits = tt })) };
+  }
+
+  pub recipient-given : {o n : ℕ} {r : Noted} {u : List ℕ} → rcptTo (part w p end) ≡ Given o n
+      → Notes t log (ev event.recipient (base + p + o) n Unsaid ∷ []) r u → RecipientIs w base p end t log r u
+  unfolding byRecipient stateOf enter enters Fits
+  recipient-given {r = r} {u} h s = record {
+    is = λ e. record { is = λ k f d. leads (rw h at d) k t log r u is.Recipient s (record { is = refl; fits = tt }) };
+  }
 
 -- ---- lines of which the clean part counts
 module _ (base : ℕ) {w : List ℕ} {p end e : ℕ} (d : Cleaned w p end e) where
@@ -99,15 +116,9 @@ module _ (base : ℕ) {w : List ℕ} {p end e : ℕ} (d : Cleaned w p end e) whe
   unfolding reacts onRecipient
   recipient-data h = rw (← (d .is), h)
 
-  module _ (h : isData (part w p end) ≡ false) where
-    pub recipient-none : Missing ≡ rcptTo (part w p end) → reacts phase.recipient (base + p) (part w p e) ≡ stop [] NoRecipient (base + p)
-    unfolding reacts onRecipient byRecipient
-    recipient-none q = rw (← (d .is), h, ← q)
-
-    pub recipient-given : {o n : ℕ} → Given o n ≡ rcptTo (part w p end)
-        → reacts phase.recipient (base + p) (part w p e) ≡ then (ev event.recipient (base + p + o) n Unsaid ∷ []) phase.recipient
-    unfolding reacts onRecipient byRecipient
-    recipient-given q = rw (← (d .is), h, ← q)
+  pub recipient-by : isData (part w p end) ≡ false → reacts phase.recipient (base + p) (part w p e) ≡ byRecipient (base + p) (rcptTo (part w p end))
+  unfolding reacts onRecipient
+  recipient-by h = rw (← (d .is), h)
 
   -- ---- lines that are listed
   pub reply-last : startsWith (text "221") (part w p end) ≡ true

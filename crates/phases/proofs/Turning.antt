@@ -12,7 +12,7 @@ use Rattle.events.specs.declared.Log.{Log}
 use Rattle.events.specs.declared.Outcome.{Outcome}
 use Rattle.events.specs.declared.Outcome.the-variants.{TableFull}
 use Rattle.fields.specs.Common.{part, unknown}
-use Rattle.reading.specs.Reading.{Need, short, parted, fetch}
+use Rattle.reading.specs.Reading.{Need, parted, fetch}
 use Rattle.reads.specs.Contracts.{Ends, Stops, Notes, Written, Full, Begins}
 use Rattle.reads.specs.declared.Noted.{Noted}
 use Rattle.reads.specs.declared.Noted.the-variants as noted
@@ -167,6 +167,18 @@ module _ {w : List ℕ} {base a : ℕ} {t₀ : List ℕ} {log₀ : Log} {f : Sta
   pub looped-still : {e : ℕ} {re : Reaction State} → Piece w base p f e re → re .events ≡ [] → enter (re .next) (base + e) ≡ f → Looped w base a t₀ log₀ f e t log
   unfolding pour
   looped-still d q g = looped-on d (record { is = rw q }) g refl
+
+  -- on to the same stand
+  pub looped-again : {k u : List ℕ} {r : Spot} → Leaves w base p k t log f r u → stateOf k (r .phase) ≡ f → length u ≡ length t
+      → Looped w base a t₀ log₀ f (r .taken) u (r .log)
+  looped-again {k} {u} {r} l g n = record {
+    from = omega (arith, c .from, l .farther);
+    came = record {
+      within = l .came .within;
+      is = ap (λ (x : Stand). lands base u (r .log) (pieces x (base + r .taken) (drop (r .taken) w))) (sym g) ∙ l .came .is ∙ c .came .is;
+    };
+    long = n ∙ c .long;
+  }
 
   pub looped-leaves : {k u : List ℕ} {r : Spot} → Leaves w base p k t log f r u → Leaves w base a k t₀ log₀ f r u
   looped-leaves l = came-leaves (c .from) (c .came) l

@@ -14,6 +14,7 @@ use Rattle.events.specs.declared.Event.{Event}
 use Rattle.events.specs.declared.Log.{Log}
 use Rattle.events.specs.declared.Outcome.{Outcome}
 use Rattle.fields.specs.Common.{Known, part, scanned}
+use Rattle.fields.specs.Smtp.{rcptTo}
 use Rattle.reading.specs.Bytes.{endsWith}
 use Rattle.reading.specs.Reading.{aLine, clean, crlf, dash}
 use Rattle.reads.specs.Contracts.{Cleaned, Written, Notes, Begins}
@@ -25,6 +26,7 @@ use Rattle.rules.specs.Mail.{begun}
 use Rattle.rules.specs.Phases as phase
 use Rattle.rules.specs.Phases.{State, reads, ends, wants}
 use Rattle.rules.specs.Sessions.{reacts}
+use Rattle.rules.specs.Smtp.{byRecipient}
 use Rattle.rules.specs.declared.Mail.{Mail}
 use Rattle.windows.specs.Pieces.{word, pieceOf, isMark}
 use Rattle.windows.specs.Stands.{Stand, fresh, inPreamble, inContent, inLiteral, enter, entered, goesOn, takes, does, clipped, pieces}
@@ -185,6 +187,10 @@ endedOf o q p log = turn.Stop (record { phase = is.Over o q; taken = cond (eqb (
 pub record HeadIs (w : List ℕ) (base p : ℕ) (k t : List ℕ) (log : Log) (ph : Phase) (r : Turn) (k' u : List ℕ) : Type 0 where
   pub slots : Slots k'
   pub is : TurnIs w base p k' t log (stateOf k ph) r u
+
+-- ---- a line that is read as a recipient: another follows, or the session is over
+pub record RecipientIs (w : List ℕ) (base p end : ℕ) (t : List ℕ) (log : Log) (r : Noted) (u : List ℕ) : Type 0 where
+  pub is : (e : ℕ) → Follows w base p e (byRecipient (base + p) (rcptTo (part w p end))) t log (onwardOf r is.Recipient e) u
 
 -- ---- lines that are listed
 

@@ -5,7 +5,7 @@ ghost use lib.ListN.{length};
 ghost use Rattle.fields.specs.Common.{part};
 ghost use Rattle.rules.specs.Sessions.{limit};
 ghost use Rattle.rules.specs.Smtp.{tried};
-ghost use Rattle.phases.specs.Phasing.{TurnOf, Follows};
+ghost use Rattle.phases.specs.Phasing.{TurnOf, Follows, RecipientIs};
 use crate::Phase;
 use crate::Spot;
 use crate::Turn;
@@ -33,6 +33,7 @@ use reads::Read;
 use reads::clean_line;
 use reads::line;
 use reads::note;
+use reads::stopped;
 use rules::Mail;
 
 pub fn hello(w: &[u8], base: usize, p: usize, log: Log) -> Turn
@@ -202,35 +203,33 @@ pub fn recipients(w: &[u8], base: usize, at: usize, table: &mut [u32], log: Log)
             }
             Clean::To(end, e) => {
                 if is_data(&w[p..end]) {
-                    let phase = Phase::Head(Mail::Smtp, unheard(), 0);
                     return Turn::On(Spot {
-                        phase,
+                        phase: Phase::Head(Mail::Smtp, unheard(), 0),
                         taken: e,
                         log: n,
                     });
                 }
-                match rcpt_to(&w[p..end]) {
-                    Address::Missing => {
-                        let phase = Phase::Over(Outcome::NoRecipient, base + p);
-                        return Turn::On(Spot {
-                            phase,
-                            taken: e,
-                            log: n,
-                        });
+                match recipient(w, base, p, end, table, n) {
+                    Noted::Stopped(a) => {
+                        return over(a, e);
                     }
-                    Address::Given(o, m) => {
-                        match note(table, n, RECIPIENT, base + p + o, m, Encoding::Unsaid) {
-                            Noted::Stopped(a) => {
-                                return over(a, e);
-                            }
-                            Noted::Written(next) => {
-                                p = e;
-                                n = next;
-                            }
-                        }
+                    Noted::Written(next) => {
+                        p = e;
+                        n = next;
                     }
                 }
             }
         }
+    }
+}
+
+// The line from p up to `end` as a recipient.
+fn recipient(w: &[u8], base: usize, p: usize, end: usize, table: &mut [u32], log: Log) -> Noted
+    requires { ⌜ (base + length (now w) ≤ limit) × (p ≤ end) × (end ≤ length (now w)) ⌝ }
+    ensures { λ r. ⌜ RecipientIs (now (w .entry)) base p end (now (table .entry)) log r (now (table .exit)) ⌝ }
+{
+    match rcpt_to(&w[p..end]) {
+        Address::Missing => Noted::Stopped(stopped(Outcome::NoRecipient, base + p, log)),
+        Address::Given(o, n) => note(table, log, RECIPIENT, base + p + o, n, Encoding::Unsaid),
     }
 }

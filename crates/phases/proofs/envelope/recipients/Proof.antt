@@ -2,20 +2,19 @@
 use mathlib.Core.Path.{_≡_, refl, sym, _∙_}
 use mathlib.Core.Bool.{false}
 use mathlib.Core.List.{[]}
-use Prim.Native.Nat.{_+_, _-_, _≤_}
+use Prim.Native.Nat.{_-_}
 use native.Mathlib.Omega.{arith}
 use lib.ListN.{length}
 use Rattle.fields.specs.Common.{part}
 use Rattle.fields.specs.Smtp.{isData}
-use Rattle.reads.proofs.Addresses.{to-room}
 use Rattle.reads.proofs.Laws.{begun-smtp}
 use Rattle.reads.specs.Contracts.{Cleaned}
 use Rattle.rules.specs.Phases.{reads, recipient, wants}
-use Rattle.windows.specs.Stands.{fresh, enter, enters}
+use Rattle.windows.specs.Stands.{fresh}
 use Rattle.phases.specs.Phasing.{stateOf, Fits}
 use Rattle.phases.specs.declared.Phase.the-variants as is
-use Rattle.phases.proofs.Reactions.{recipient-data, recipient-none, recipient-given}
-use Rattle.phases.proofs.Turning.{piece-of, waits-whole, leads-still, leads-full, first-head, Looped, not-yet, looped-on, looped-leaves, looped-goes}
+use Rattle.phases.proofs.Reactions.{recipient-data, recipient-by}
+use Rattle.phases.proofs.Turning.{piece-of, waits-whole, leads-still, first-head, Looped, not-yet, looped-again, looped-leaves, looped-goes}
 use borrow.Author.Needs.{needs}
 use Rattle.phases.proofs.envelope.recipients.Statement.{statement}
 use Rattle.phases.proofs.envelope.recipients.Tie as tie
@@ -88,99 +87,44 @@ no-data : (c : tie.Else1 Inv-loop μ-loop) →
     isData (part (start loop .args .w .now) (loop .loop .p) (end-of c .end .given .0 .0)) ≡ false
 no-data c = sym (c .before .is-data .ensures) ∙ c .if1 .left
 
--- it ends behind p
-sub-rcpt-to : tie.Need-sub-rcpt-to Inv-loop μ-loop
-sub-rcpt-to c = line-to (end-of c) .from
+-- the line lies in the window
+recipient-requires : tie.Need-recipient-requires Inv-loop μ-loop
+recipient-requires c κs =
+    let end = end-of (c .before) in
+    let line = line-to end in
+    (start (loop-of end) .pre .0, line .from, omega (arith, line .within, line .ends .within))
 
--- so that it is a part of the window
-part-rcpt-to-start : tie.Need-part-rcpt-to-start Inv-loop μ-loop
-part-rcpt-to-start c = line-to (end-of c) .from
-
--- and not behind its end
-part-rcpt-to-end : tie.Need-part-rcpt-to-end Inv-loop μ-loop
-part-rcpt-to-end c = let line = line-to (end-of c) in omega (arith, line .within, line .ends .within)
-
--- ---- none is given: the line begins before the limit
-add-t32 : tie.Need-add-t32 Inv-loop μ-loop
-add-t32 c = let line = line-to (end-of (c .before .before .before .before)) in omega (arith, line .ends .on, line .ends .within)
-
--- and the session is over
+-- none is given, or the table is full: the session is over
 returns-3 : tie.Need-returns-3 Inv-loop μ-loop
-unfolding wants stateOf enter enters Fits
-returns-3 c =
-    let asked = c .before .before in
-    let other = asked .before .before in
-    let line = line-to (end-of other) in
-    let none = sym (c .enum-told2 .given .1) ∙ asked .rcpt-to .ensures in
-    λ k.
-    looped-leaves (loop-of (end-of other) .loop .inv)
-    (leads-still (piece-of recipient (line .ends) (recipient-none _ line (no-data other) none)) refl (record { is = refl; fits = tt }))
-
--- ---- one is given, o bytes behind p and m long
-abbrev other-of : tie.After-note-arg Inv-loop μ-loop → tie.Else1 Inv-loop μ-loop
-other-of c = c .before .before .before .before .before .before
-
--- it lies in the line
-given-room : (c : tie.After-note-arg Inv-loop μ-loop) →
-    let given = c .before .before in
-    let end = end-of (other-of c) in
-    given .o .given .0 .0 + given .o .given .0 .1 .0 ≤ end .end .given .0 .0 - loop-of end .loop .p
-given-room c =
-    let given = c .before .before in
-    let end = end-of (other-of c) in
-    let loop = loop-of end in
-    to-room (start loop .args .w .now) (loop .loop .p) (end .end .given .0 .0) (sym (given .before .before .rcpt-to .ensures) ∙ given .o .given .1)
-
--- the line begins before the limit
-add-note : tie.Need-add-note Inv-loop μ-loop
-add-note c = let line = line-to (end-of (other-of c)) in omega (arith, given-room c, line .from, line .within, line .ends .within)
-
--- and so does the address
-add-note-2 : tie.Need-add-note-2 Inv-loop μ-loop
-add-note-2 c = let line = line-to (end-of (other-of c)) in omega (arith, given-room c, line .from, line .within, line .ends .within)
-
--- where it begins and how long it is fit a slot of the table
-note-requires : tie.Need-note-requires Inv-loop μ-loop
-note-requires c κs =
-    let line = line-to (end-of (other-of c)) in
-    let room = given-room c in
-    (omega (arith, room, line .from, line .within, line .ends .within), omega (arith, room, line .from, line .within, line .ends .within))
-
--- the table is full
-returns-4 : tie.Need-returns-4 Inv-loop μ-loop
 unfolding wants stateOf
-returns-4 c =
+returns-3 c =
     let stopped = c .before .before in
-    let noted = stopped .before .before .before .before in
-    let given = noted .before .before .before in
-    let other = other-of (noted .before) in
+    let called = stopped .before .before .before .before in
+    let other = called .before .before in
     let line = line-to (end-of other) in
-    let address = sym (given .o .given .1) ∙ given .before .before .rcpt-to .ensures in
-    let unwritten = rw (stopped .a .given .1) at (noted .note .ensures) in
+    let read = rw (stopped .a .given .1) at (called .recipient .ensures) in
     λ k.
     rw (c .over .ensures)
     (looped-leaves (loop-of (end-of other) .loop .inv)
-    (leads-full (piece-of recipient (line .ends) (recipient-given _ line (no-data other) address)) [] refl unwritten))
+    (read .is _ .is k _ (piece-of recipient (line .ends) (recipient-by _ line (no-data other)))))
 
 -- it is listed: fewer bytes are left behind the line
 loop-less : tie.Need-loop-less Inv-loop μ-loop
 loop-less c =
-    let noted = c .before .before .before .before .before in
-    let line = line-to (end-of (other-of (noted .before))) in
+    let called = c .before .before .before .before .before in
+    let line = line-to (end-of (called .before .before)) in
     omega (arith, line .ends .on, line .ends .within)
 
 -- another line
 loop-again : tie.Need-loop-again Inv-loop μ-loop
-unfolding wants enter enters
+unfolding wants stateOf
 loop-again c =
-    let noted = c .before .before .before .before .before in
-    let given = noted .before .before .before in
-    let other = other-of (noted .before) in
+    let called = c .before .before .before .before .before in
+    let other = called .before .before in
     let line = line-to (end-of other) in
-    let address = sym (given .o .given .1) ∙ given .before .before .rcpt-to .ensures in
-    let written = rw (c .before .next .given .1) at (noted .note .ensures) in
-    looped-on (loop-of (end-of other) .loop .inv)
-    (piece-of recipient (line .ends) (recipient-given _ line (no-data other) address)) written refl (noted .note .kept .0)
+    let read = rw (c .before .next .given .1) at (called .recipient .ensures) in
+    looped-again (loop-of (end-of other) .loop .inv)
+    (read .is _ .is [] _ (piece-of recipient (line .ends) (recipient-by _ line (no-data other)))) refl (called .recipient .kept .1 .1 .1 .1 .0)
 
 pub recipients-spec : {M : Type 1} → statement M
 recipients-spec =
@@ -201,22 +145,11 @@ recipients-spec =
     (λ c κs. search needs)
     (λ c. search needs)
     returns-2
-    sub-rcpt-to
-    part-rcpt-to-start
-    part-rcpt-to-end
-    (λ c κs. search needs)
+    recipient-requires
     (λ c. search needs)
-    add-t32
+    (λ c κs. search needs)
     (λ c. search needs)
     returns-3
-    (λ c. search needs)
-    add-note
-    add-note-2
-    note-requires
-    (λ c. search needs)
-    (λ c κs. search needs)
-    (λ c. search needs)
-    returns-4
     (λ c. search needs)
     loop-less
     loop-again)
