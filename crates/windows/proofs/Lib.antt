@@ -1,4 +1,4 @@
-pub mod Computed
+pub mod Answers
 pub mod Piecemeal
 pub mod Marks
 pub mod Delimiters
