@@ -65,6 +65,13 @@ on n e ws rs es =
       wanted = flat rs ++ (flat es ++ replicate (4 * n + 1 - 4 * length es) 99);
     }
 
+-- a boundary of so many bytes; and a mail of POP3 up to its boundary
+abbrev bs : ℕ → List ℕ
+bs n = replicate n 98
+
+abbrev retrieved : List ℕ → List ℕ
+retrieved s = text "+OK 1 octets\r\nContent-Type: m; boundary=" ++ s
+
 abbrev sessions : List Case
 sessions =
     -- a literal, of which all bytes shown are taken; the place stays where it began; its CRLF is waited for
@@ -72,7 +79,8 @@ sessions =
     ((0, 1, 0, 0) ∷ (26, 1, 25, 4) ∷ (0, 1, 25, 4) ∷ (1, 1, 25, 4) ∷ (1, 1, 28, 6) ∷ (2, 1, 30, 6) ∷ (3, 1, 33, 7) ∷ [])
     ((7, 0, 15, 0) ∷ (1, 17, 6, 0) ∷ (1, 23, 2, 0) ∷ (2, 25, 0, 0) ∷ (4, 25, 3, 0) ∷ (6, 28, 0, 0) ∷ (7, 30, 1, 0) ∷ []) ∷
     -- a preamble and a content by lines: none is taken before it is finished, and no delimiter stands behind a bare LF
-    on 12 Pop3Server (text "+OK 9 octets\r\nContent-Type: m; boundary=q\r\n\r\np" ∷ text "re\r\n-" ∷ text "-q\r" ∷ text "\n\r\na\r" ∷ text "\nb\n--q\r\nc" ∷ text "\r\n--" ∷ text "q" ∷ text "--\r\n." ∷ text "\r\n" ∷ [])
+    on 12 Pop3Server (text "+OK 9 octets\r\nContent-Type: m; boundary=q\r\n\r\np" ∷ text "re\r\n-" ∷ text "-q\r" ∷ text "\n\r\na\r" ∷ text "\nb\n--q\r\nc"
+    ∷ text "\r\n--" ∷ text "q" ∷ text "--\r\n." ∷ text "\r\n" ∷ [])
     ((45, 1, 45, 3) ∷ (5, 1, 45, 3) ∷ (3, 1, 53, 3) ∷ (4, 1, 57, 5) ∷ (10, 1, 57, 5) ∷ (3, 1, 57, 5) ∷ (3, 1, 73, 7) ∷ (4, 1, 77, 7) ∷ (3, 1, 80, 7) ∷ [])
     ((8, 0, 12, 0) ∷ (1, 14, 29, 0) ∷ (1, 43, 2, 0) ∷ (1, 55, 2, 0) ∷ (2, 57, 0, 0) ∷ (5, 57, 11, 0) ∷ (6, 68, 0, 0) ∷ []) ∷
     -- a delimiter is read though its line is not finished; the refusal takes nothing of its window
@@ -80,11 +88,11 @@ sessions =
     ((45, 1, 45, 3) ∷ (0, 6, 59, 7) ∷ [])
     ((8, 0, 12, 0) ∷ (1, 14, 29, 0) ∷ (1, 43, 2, 0) ∷ (1, 50, 2, 0) ∷ (2, 52, 0, 0) ∷ (5, 52, 2, 0) ∷ (6, 54, 0, 0) ∷ []) ∷
     -- a boundary of 71 bytes: 12 behind the blank line, and again however much is shown
-    on 12 Pop3Server (text "+OK 1 octets\r\nContent-Type: m; boundary=bbbbbbbbbbbbbbbbbbbbbbbbbbbbbbbbbbbbbbbbbbbbbbbbbbbbbbbbbbbbbbbbbbbbbbb\r\n\r" ∷ text "\n--x" ∷ text "y" ∷ [])
+    on 12 Pop3Server (retrieved (bs 71 ++ text "\r\n\r") ∷ text "\n--x" ∷ text "y" ∷ [])
     ((113, 1, 113, 2) ∷ (0, 12, 115, 3) ∷ (0, 12, 115, 3) ∷ [])
     ((8, 0, 12, 0) ∷ (1, 14, 99, 0) ∷ (1, 113, 2, 0) ∷ []) ∷
     -- one of 70 bytes is none too long
-    on 12 Pop3Server (text "+OK 1 octets\r\nContent-Type: m; boundary=bbbbbbbbbbbbbbbbbbbbbbbbbbbbbbbbbbbbbbbbbbbbbbbbbbbbbbbbbbbbbbbbbbbbbb\r\n\r\n--bbbbbbbbbbbbbbbbbbbbbbbbbbbbbbbbbbbbbbbbbbbbbbbbbbbbbbbbbbbbbbbbbbbbbb\r\n" ∷ [])
+    on 12 Pop3Server (retrieved (bs 70 ++ (text "\r\n\r\n--" ++ (bs 70 ++ text "\r\n"))) ∷ [])
     ((188, 1, 188, 3) ∷ [])
     ((8, 0, 12, 0) ∷ (1, 14, 98, 0) ∷ (1, 112, 2, 0) ∷ []) ∷
     -- a refusal takes nothing, of lines before it in the window neither
@@ -123,7 +131,7 @@ after n = record { stand = fresh (reads phase.reply); at = n; log = record { cou
 abbrev deep : ℕ → Record
 deep n =
     record {
-      stand = fresh (reads (phase.head Smtp (record { encoding = Unsaid; typeSeen = true; boundary = some (replicate 71 98) }) (replicate n (98 ∷ []))));
+      stand = fresh (reads (phase.head Smtp (record { encoding = Unsaid; typeSeen = true; boundary = some (bs 71) }) (replicate n (98 ∷ []))));
       at = 100;
       log = record { count = 0 };
     }
