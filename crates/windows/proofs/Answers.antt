@@ -1,7 +1,7 @@
 -- The definition, computed: telling sessions by windows, with the answers that the oracle gives to each of them.
 -- Assumes nothing.
 use mathlib.Core.Path.{_≡_, refl}
-use mathlib.Core.List.{List, [], _∷_, _++_, map}
+use mathlib.Core.List.{List, [], _∷_, _++_}
 use Prim.Native.String.{String}
 use Rattle.classes.specs.Classes.{upperOf, isLetter, isUpper, isWhite, isBlank, isPopWhite, isDigit}
 use Rattle.events.specs.Events.{resultNumber}
@@ -146,8 +146,10 @@ records =
     one (deep 8) (text "\r\n") (0, 9, 102, 1) ∷
     []
 
+-- each answers what is wanted
 abbrev Holds : List Case → Type 0
-Holds cs = map (λ c. c .answers) cs ≡ map (λ c. c .wanted) cs
+Holds [] = Unit {0}
+Holds (c ∷ cs) = (c .answers ≡ c .wanted) × Holds cs
 
 both : Holds sessions × Holds records
 unfolding trace shows taken window refused lands landed keeps over said enter enters opens copied clipped takes does standResult standPlace word orElse standing
@@ -159,7 +161,7 @@ unfolding trace shows taken window refused lands landed keeps over said enter en
     appendSize holdsColon afterMail literalBody rest plainMail boundaryFree begun onHead onText onLiteral onPreamble onOpened held whole contentLength
     onContent outermost byRest skip onBetween lastLine popped onSkipping onResting onHello given bySecond onSecond onUser onPassword onSender onSeeking
     byRecipient onRecipient onReply onStatus onCommand onOffered onClosing
-both = (refl, refl)
+both = ((refl, (refl, (refl, (refl, (refl, (refl, (refl, (refl, (refl, tt))))))))), (refl, (refl, (refl, (refl, tt)))))
 
 pub computed : Holds sessions
 computed = both .0
