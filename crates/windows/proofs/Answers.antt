@@ -2,7 +2,6 @@
 -- Assumes nothing.
 use mathlib.Core.Path.{_≡_, refl}
 use mathlib.Core.List.{List, [], _∷_, _++_}
-use Prim.Native.String.{String}
 use Rattle.classes.specs.Classes.{upperOf, isLetter, isUpper, isWhite, isBlank, isPopWhite, isDigit}
 use Rattle.events.specs.Events.{resultNumber}
 use Rattle.reading.specs.Text.{text}
@@ -23,7 +22,7 @@ use Rattle.rules.specs.Pop3.{onStatus}
 use Rattle.rules.specs.Imap.{onCommand, onOffered, onClosing}
 use Rattle.rules.specs.declared.Entry.{Entry}
 use Rattle.rules.specs.declared.Entry.the-variants.{SmtpClient, SmtpServer, Pop3Server, ImapClient}
-use mathlib.Core.Bool.{Bool, true, false}
+use mathlib.Core.Bool.{true}
 use mathlib.Core.Option.{some}
 use Prim.Native.Nat.{ℕ, _+_, _*_, _-_}
 use lib.ListN.{length, replicate}

@@ -1,7 +1,7 @@
 -- A session that is taken in pieces comes to what document 01's comes to, where no boundary is too long; and where one is, up to there.
 -- Assumes nothing.
 use mathlib.Core.Path.{_≡_, refl, sym, ap, _∙_}
-use mathlib.Core.List.{List, [], _++_, append-assoc}
+use mathlib.Core.List.{List, _++_, append-assoc}
 use Prim.Native.Nat.{ℕ, zero, suc, _+_, _<_}
 use native.Mathlib.Omega.{arith}
 use lib.ListN.{length}
@@ -10,10 +10,10 @@ use Rattle.events.specs.declared.Outcome.{Outcome}
 use Rattle.events.specs.declared.Outcome.the-variants.{LongBoundary}
 use Rattle.reading.specs.Reading.{Got, got, short, reach, parted, fetch}
 use Rattle.rules.proofs.Machines.{session-shorter, session-short, session-got}
-use Rattle.rules.specs.Machine.{Ran, stay, before}
+use Rattle.rules.specs.Machine.{Ran, stay}
 use Rattle.rules.specs.Phases.{State, ends, need}
 use Rattle.rules.specs.Sessions.{react, session, resultOf, placeOf}
-use Rattle.windows.proofs.Courses.{Waits, Follows, Course, follows, too-long, course, pieces-short}
+use Rattle.windows.proofs.Courses.{Follows, Course, follows, too-long, course, pieces-short}
 use Rattle.windows.specs.Stands.{Stand, fresh, enter, takes, pieces, standResult, standPlace}
 
 -- ---- what is told of a run

@@ -1,7 +1,7 @@
 -- A session that is taken in pieces goes the way of document 01's: every read comes to what it comes to there; but for a boundary that is too long.
 -- Assumes nothing.
-use mathlib.Core.Path.{_≡_, refl, sym, ap, _∙_}
-use mathlib.Core.Bool.{Bool, true, false, cond}
+use mathlib.Core.Path.{_≡_, refl, ap, _∙_}
+use mathlib.Core.Bool.{Bool, true, false}
 use mathlib.Core.List.{List, _∷_, _++_}
 use mathlib.Core.Option.{Option, none, some}
 use Prim.Native.Nat.{ℕ, _+_, _-_, _≤_, _<_}
@@ -19,18 +19,18 @@ use Rattle.fields.specs.Common.{Known, scanned, byBoundary, firstEncoding}
 use Rattle.reading.proofs.Pieces.{got-splits, got-moves}
 use Rattle.reading.proofs.Places.{by-test}
 use Rattle.reading.specs.Bytes.{same, endsWith}
-use Rattle.reading.specs.Reading.{crlf, dash, Need, bytes, delimiter, Got, got, short, reach, parted, fetch}
+use Rattle.reading.specs.Reading.{crlf, dash, Need, bytes, Got, got, short, fetch}
 use Rattle.rules.proofs.Machines as machine
 use Rattle.rules.proofs.Machines.{Reads}
-use Rattle.rules.specs.Machine.{Reaction, Ran, stay, before}
+use Rattle.rules.specs.Machine.{Reaction, stay, before}
 use Rattle.rules.specs.Mail.{levels, begun, onHead, onPreamble, onContent, onLiteral}
 use Rattle.rules.specs.Phases.{Phase, State, reads, ends, need, wants}
 use Rattle.rules.specs.Phases as phase
 use Rattle.rules.specs.Sessions.{reacts, react, resultOf, placeOf}
 use Rattle.rules.specs.declared.Mail.{Mail}
 use Rattle.windows.proofs.Delimiters.{word-marks, delimited}
-use Rattle.windows.proofs.Marks.{by-lines, piece-splits, upTo}
-use Rattle.windows.proofs.Piecemeal.{Piecemeal, Under, Waiting, Comes, comes}
+use Rattle.windows.proofs.Marks.{by-lines, piece-splits}
+use Rattle.windows.proofs.Piecemeal.{Piecemeal, Under, Comes, comes}
 use Rattle.windows.proofs.Sized.{by-bytes}
 use Rattle.windows.specs.Pieces.{word, pieceOf, isMark}
 use Rattle.windows.specs.Stands.{Stand, fresh, inPreamble, inContent, inLiteral, longest, copied, clipped, opens, enters, enter, entered, goesOn, takes, does, pieces}

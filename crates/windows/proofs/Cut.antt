@@ -3,9 +3,8 @@
 use mathlib.Core.Path.{_≡_, refl, sym, ap, _∙_}
 use mathlib.Core.Bool.{Bool, true, false, cond}
 use mathlib.Core.List.{List, [], _∷_, _++_, append-nil, append-assoc, flatten}
-use Prim.Native.Nat.{ℕ, _+_, _-_, _≤_, _<_}
+use Prim.Native.Nat.{ℕ, _+_, _-_, _≤_}
 use native.Mathlib.Omega.{arith}
-use lib.Dec.{ltb}
 use lib.ListN.{length, drop, length-append}
 use borrow.Author.Tests.{le-ltb}
 use Rattle.events.proofs.Laws.{further, pour-append}
@@ -14,9 +13,8 @@ use Rattle.events.specs.declared.Event.{Event}
 use Rattle.events.specs.declared.Log.{Log}
 use Rattle.events.specs.declared.Outcome.the-variants.{LongBoundary}
 use Rattle.reading.specs.Reading.{reach, parted, fetch}
-use Rattle.rules.specs.Machine.{Ran, stay, before, go, run}
+use Rattle.rules.specs.Machine.{Ran, stay, go, run}
 use Rattle.rules.specs.Phases.{Phase, reads, ends, need}
-use Rattle.rules.specs.Phases
 use Rattle.rules.specs.Sessions.{limit, answer, answerOf, settle, session, startOf, resultOf, placeOf}
 use Rattle.rules.specs.declared.Entry.{Entry}
 use Rattle.rules.specs.declared.Entry.the-variants.{SmtpClient, SmtpServer, Pop3Server, ImapClient}
@@ -25,7 +23,7 @@ use Rattle.windows.proofs.Courses.{taking, pieces-short}
 use Rattle.windows.proofs.Firm.{Firm, FirmState, FirmPhase, does-firm, takes-holds}
 use Rattle.windows.proofs.Runs as runs
 use Rattle.windows.specs.Stands.{Stand, fresh, inPreamble, inContent, inLiteral, enter, enters, takes, does, pieces, standResult, standPlace}
-use Rattle.windows.specs.Windows.{Record, begins, said, over, keeps, Shown, refused, landed, lands, window, taken, Tap, tapped, shows, showsAll, lastly}
+use Rattle.windows.specs.Windows.{Record, said, over, keeps, refused, landed, lands, window, taken, Tap, tapped, shows, showsAll, lastly}
 
 pub firm : runs.Holds Stand takes does Firm
 firm = record { holds = takes-holds; keeps = does-firm }

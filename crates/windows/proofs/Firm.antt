@@ -1,13 +1,13 @@
 -- A boundary is a part of a line, so that it holds an LF only as its last byte. What a session comes to keeps it so; then bytes added behind change no piece.
 -- Assumes nothing.
-use mathlib.Core.Path.{_≡_, refl, sym, ap, _∙_}
+use mathlib.Core.Path.{_≡_}
 use mathlib.Core.Bool.{Bool, true, false, cond}
 use mathlib.Core.List.{List, [], _∷_, _++_}
 use mathlib.Core.Option.{Option, none, some}
 use Prim.Native.Nat.{ℕ, zero, suc, _+_, _-_}
 use native.Mathlib.Omega.{arith}
 use lib.Dec.{eqb, ltb, leb}
-use lib.ListN.{length, take, drop}
+use lib.ListN.{length}
 use Rattle.events.specs.declared.Encoding.{Encoding}
 use Rattle.fields.specs.Common.{Known, unknown, scanned, byBoundary, byExt, byType, contentType, contentTypeExt, firstEncoding}
 use Rattle.fields.specs.Imap.{isAppend, holdsColon}
@@ -23,7 +23,7 @@ use Rattle.fields.specs.declared.smtp.Second.{Second}
 use Rattle.fields.specs.declared.smtp.Second.the-variants as is
 use Rattle.reading.proofs.Pieces.{got-holds}
 use Rattle.reading.specs.Bytes.{startsWith, same}
-use Rattle.reading.specs.Reading.{crlf, clean, dash, aLine, bytes, Got, got, fetch}
+use Rattle.reading.specs.Reading.{crlf, clean, dash, bytes, got, fetch}
 use Rattle.reading.specs.Text.{text}
 use Rattle.rules.specs.Imap.{onCommand, onOffered, onClosing}
 use Rattle.rules.specs.Machine.{Reaction}

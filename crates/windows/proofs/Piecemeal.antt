@@ -2,15 +2,15 @@
 -- Assumes nothing.
 use mathlib.Core.Path.{_≡_, refl, sym, ap, _∙_}
 use mathlib.Core.Bool.{Bool, true, false, cond}
-use mathlib.Core.List.{List, [], _++_}
-use Prim.Native.Nat.{ℕ, zero, suc, _+_, _-_, _≤_, _<_}
+use mathlib.Core.List.{List, _++_}
+use Prim.Native.Nat.{ℕ, zero, suc, _+_, _<_}
 use native.Mathlib.Omega.{arith}
 use lib.ListN.{length, drop, length-append}
 use lib.Seq.{drop-at, drop-drop}
 use Rattle.reading.specs.Reading.{Got, got, short}
 use Rattle.rules.proofs.Machines as machine
 use Rattle.rules.proofs.Machines.{Reads}
-use Rattle.rules.specs.Machine.{Reaction, Ran, stay, before}
+use Rattle.rules.specs.Machine.{Reaction, stay, before}
 use Rattle.rules.specs.Phases.{State}
 use Rattle.windows.specs.Stands.{Stand, enter, entered, goesOn, takes, does, pieces}
 

@@ -1,12 +1,11 @@
 -- Any machine: a run that is cut and goes on from where it stood is the run on the whole, and no byte is lost on the way.
 -- Assumes nothing.
 use mathlib.Core.Path.{_≡_, refl, sym, ap, _∙_}
-use mathlib.Core.List.{List, [], _++_, append-assoc}
+use mathlib.Core.List.{List, _++_, append-assoc}
 use Prim.Native.Nat.{ℕ, zero, suc, _+_, _-_, _≤_, _<_}
 use native.Mathlib.Omega.{arith}
 use lib.ListN.{length, drop, length-append, length-drop}
 use lib.Seq.{drop-drop, drop-at}
-use Rattle.events.specs.declared.Event.{Event}
 use Rattle.reading.specs.Reading.{Got, got, short}
 use Rattle.rules.proofs.Machines as machine
 use Rattle.rules.proofs.Machines.{Reads}

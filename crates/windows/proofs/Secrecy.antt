@@ -7,7 +7,7 @@ use Prim.Native.Nat.{ℕ, _+_}
 use native.Mathlib.Omega.{arith}
 use lib.ListN.{length, take, drop, length-append}
 use lib.Seq.{take-at, drop-at}
-use Rattle.events.specs.Table.{Final, Poured, all, full, pour, finish}
+use Rattle.events.specs.Table.{Poured, all, full, pour, finish}
 use Rattle.events.specs.declared.Event.{Event}
 use Rattle.events.specs.declared.Log.{Log}
 use Rattle.events.specs.declared.Outcome.the-variants.{TooLong}

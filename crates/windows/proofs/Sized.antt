@@ -1,7 +1,7 @@
 -- A sized read goes byte by byte.
 -- Assumes nothing.
-use mathlib.Core.Path.{_≡_, refl, sym, ap, _∙_}
-use mathlib.Core.Bool.{Bool, true, false, cond}
+use mathlib.Core.Path.{_≡_, refl, sym, _∙_}
+use mathlib.Core.Bool.{true, false}
 use mathlib.Core.List.{List, [], _∷_}
 use Prim.Native.Nat.{ℕ, zero, suc, _+_, _-_, _≤_, _<_}
 use native.Mathlib.Omega.{arith}
@@ -9,7 +9,7 @@ use lib.Dec.{eqb, ltb}
 use lib.ListN.{length}
 use borrow.Author.Tests.{eqb-true, eqb-false, lt-ltb, le-ltb, ltb-true, ltb-false}
 use Rattle.reading.proofs.Places.{by-test}
-use Rattle.reading.specs.Reading.{bytes, reach, Got, got, short, parted, fetch}
+use Rattle.reading.specs.Reading.{bytes, reach, got, short, parted, fetch}
 use Rattle.reading.specs.declared.Place.the-variants.{At, Nowhere}
 use Rattle.windows.proofs.Piecemeal.{onto, Piecemeal}
 
