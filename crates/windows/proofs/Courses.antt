@@ -1,7 +1,7 @@
 -- A session that is taken in pieces goes the way of document 01's: every read comes to what it comes to there; but for a boundary that is too long.
 -- Assumes nothing.
-use mathlib.Core.Path.{_≡_, refl, ap, _∙_}
-use mathlib.Core.Bool.{Bool, true, false}
+use mathlib.Core.Path.{_≡_, refl, sym, ap, _∙_}
+use mathlib.Core.Bool.{Bool, true, false, cond}
 use mathlib.Core.List.{List, _∷_, _++_}
 use mathlib.Core.Option.{Option, none, some}
 use Prim.Native.Nat.{ℕ, _+_, _-_, _≤_, _<_}
@@ -14,11 +14,11 @@ use Rattle.events.specs.Events.{ev, headerLine}
 use Rattle.events.specs.declared.Encoding.{Encoding}
 use Rattle.events.specs.declared.Encoding.the-variants.{Unsaid}
 use Rattle.events.specs.declared.Event.{Event}
-use Rattle.events.specs.declared.Outcome.the-variants.{LongBoundary}
+use Rattle.events.specs.declared.Outcome.the-variants.{TooDeep, LongBoundary}
 use Rattle.fields.specs.Common.{Known, scanned, byBoundary, firstEncoding}
 use Rattle.reading.proofs.Pieces.{got-splits, got-moves}
 use Rattle.reading.proofs.Places.{by-test}
-use Rattle.reading.specs.Bytes.{same, endsWith}
+use Rattle.reading.specs.Bytes.{startsWith, same, endsWith}
 use Rattle.reading.specs.Reading.{crlf, dash, Need, bytes, Got, got, short, fetch}
 use Rattle.rules.proofs.Machines as machine
 use Rattle.rules.proofs.Machines.{Reads}
@@ -107,21 +107,36 @@ module _ (st : State) (at : ℕ) {U : Type 0} {piece : U → List ℕ → Got} {
   in-pieces : Course st at
   in-pieces = follows (λ s. rw (whole-is s) at (came s (whole u s) (comes taking P under u at s)))
 
--- ---- a header's boundary is clipped
-opens-clipped : (m : Mail) (b : List ℕ) (os : List (List ℕ)) (at : ℕ) → opens m (take (longest + 1) b) os at ≡ opens m b os at
-unfolding opens
-opens-clipped m b os at =
+-- ---- a header's boundary is clipped: one that may be is copied whole, and of a longer one it can still be told
+pub copied-whole : (b : List ℕ) → length b ≤ longest → take (longest + 1) b ≡ b
+copied-whole b h = take-all (longest + 1) b (omega arith)
+
+pub tells-long : (b : List ℕ) → ltb longest (length (take (longest + 1) b)) ≡ ltb longest (length b)
+tells-long b =
     by-test (ltb longest (length b))
-    (λ h.
-    let g : ltb longest (length (take (longest + 1) b)) ≡ true =
-    lt-ltb longest (length (take (longest + 1) b)) (omega (arith, ltb-true longest (length b) h, length-take (longest + 1) b)) in
-    rw (g, h))
-    (λ h. let e : take (longest + 1) b ≡ b = take-all (longest + 1) b (omega (arith, ltb-false longest (length b) h)) in rw e)
+    (λ h. lt-ltb longest (length (take (longest + 1) b)) (omega (arith, ltb-true longest (length b) h, length-take (longest + 1) b)) ∙ sym h)
+    (λ h. ap (λ (c : List ℕ). ltb longest (length c)) (copied-whole b (omega (arith, ltb-false longest (length b) h))))
+
+-- 12 exactly where a boundary of more than 70 bytes opens
+pub twelve : (m : Mail) (b : List ℕ) (os : List (List ℕ)) (at : ℕ)
+    → opens m (take (longest + 1) b) os at ≡ cond (ltb longest (length b)) (fresh (ends LongBoundary at)) (inPreamble m b os at true)
+unfolding opens
+twelve m b os at =
+    by-test (ltb longest (length b))
+    (λ h. rw (tells-long b, h))
+    (λ h. let e : take (longest + 1) b ≡ b = copied-whole b (omega (arith, ltb-false longest (length b) h)) in rw e)
+
+-- behind a header's blank line: 9 inside eight levels, else so, at the same place
+pub after-nine : (m : Mail) (e : Encoding) (seen : Bool) (b : List ℕ) (os : List (List ℕ)) (at : ℕ)
+    → does (fresh (reads (phase.head m (clipped (record { encoding = e; typeSeen = seen; boundary = some b })) os))) at crlf .next
+    ≡ cond (leb levels (length os)) (fresh (ends TooDeep (at + 2))) (cond (ltb longest (length b)) (fresh (ends LongBoundary (at + 2))) (inPreamble m b os (at + 2) true))
+unfolding does react reacts onHead clipped copied begun enter enters same startsWith
+after-nine m e seen b os at = by-test (leb levels (length os)) (λ h. rw h) (λ h. rw (h, twelve m b os (at + 2)))
 
 begun-clipped : (m : Mail) (e : Encoding) (o : Option (List ℕ)) (os : List (List ℕ)) (to : ℕ) → entered (begun m e (copied o) os to) to ≡ entered (begun m e o os to) to
-unfolding begun copied enter enters
+unfolding begun copied enter enters opens
 begun-clipped m e none os to = refl
-begun-clipped m e (some b) os to = by-test (leb levels (length os)) (λ h. rw h) (λ h. rw (h, opens-clipped m b os to))
+begun-clipped m e (some b) os to = by-test (leb levels (length os)) (λ h. rw h) (λ h. rw h (ap (λ (f : Stand). goesOn f) (twelve m b os to)))
 
 pub clipped-again : (e : Encoding) (seen : Bool) (o : Option (List ℕ)) (l : List ℕ) → clipped (byBoundary e seen (copied o) l) ≡ clipped (byBoundary e seen o l)
 unfolding copied clipped byBoundary
