@@ -8,17 +8,21 @@ use Rattle.cuts.proofs.Laws.{in-room}
 use Rattle.cuts.proofs.case.Statement.{statement}
 use Rattle.cuts.proofs.case.Tie as tie
 
+abbrev start : tie.Else2 → tie.Start
+start c = c .before .before .before .before .before .before
+
 -- the table's front is lent
 slice-aggregate-t : tie.Need-slice-aggregate-t
-slice-aggregate-t c = sym (length-take-le _ (c .before .before .before .before .before .before .before .args .table .now) (c .before .if2 .left))
+slice-aggregate-t c = sym (length-take-le _ (start (c .before) .args .table .now) (c .before .if2 .left))
 
 -- the windows' lines lie in the buffer, which keeps its length
 list-requires : tie.Need-list-requires
 list-requires c _ =
     let told = c .before .before .before in
-    let shown = told .before .before .before .before .before .before .show-all in
-    let start = told .before .before .before .before .before .before .before .before .before .before .before .before .before .before .before .before .before .before .before .before in
-    (in-room (length (shown .last .1 .1 .1 .1 .0)) (shown .ensures) (told .text .given .1), omega (arith, shown .kept .1 .1 .1 .1 .0, start .pre))
+    let called = told .before .before .before .before .before .before in
+    let shown = called .show-all in
+    let room = called .before .before .before .before .before .before .before .before in
+    (in-room (length (shown .last .1 .1 .1 .1 .0)) (shown .ensures) (told .text .given .1), omega (arith, shown .kept .1 .1 .1 .1 .0, start room .pre))
 
 pub case-spec : {M : Type 1} → statement M
 case-spec =

@@ -8,7 +8,8 @@ use Rattle.cuts.proofs.list_all.Statement.{statement}
 use Rattle.cuts.proofs.list_all.Tie as tie
 
 abbrev Inv-loop : tie.InvT-loop
-Inv-loop bytes₀ lengths₀ table₀ out₀ turns₀ bytes lengths table out turns = (length bytes ≡ length bytes₀) × (length lengths ≡ length lengths₀) × (length table ≡ length table₀) × (length out ≡ length out₀)
+Inv-loop bytes₀ lengths₀ table₀ out₀ turns₀ bytes lengths table out turns =
+    (length bytes ≡ length bytes₀) × (length lengths ≡ length lengths₀) × (length table ≡ length table₀) × (length out ≡ length out₀)
 
 abbrev μ-loop : tie.MeasureT-loop
 μ-loop bytes₀ lengths₀ table₀ out₀ turns₀ bytes lengths table out turns = turns

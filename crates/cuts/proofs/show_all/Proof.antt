@@ -15,12 +15,15 @@ abbrev μ-loop : tie.MeasureT-loop
 μ-loop bytes lengths table₀ out₀ session₀ answer₀ at₀ to₀ text₀ i₀ table out session answer at to text i =
     length lengths / 4 - i
 
+abbrev start : tie.After-show Inv-loop μ-loop → tie.Start Inv-loop μ-loop
+start c = c .before .before .before .before .before .before .before .before .before .before .before .before .before
+
 -- ---- what is taken and the window's number stay below the slices' lengths
 add-at : tie.Need-add-at Inv-loop μ-loop
-add-at c = omega (arith, c .before .before .before .before .before .before .before .before .before .before .before .before .before .before .before .before .before .before .good .1 .0 .0)
+add-at c = omega (arith, start (c .before .before .before .before .before) .good .1 .0 .0)
 
 add-i : tie.Need-add-i Inv-loop μ-loop
-add-i c = omega (arith, c .before .before .before .before .before .before .before .before .before .before .before .before .before .before .before .before .before .before .before .before .before .before .good .1 .1 .0 .0)
+add-i c = omega (arith, start (c .before .before .before .before .before .before .before .before .before) .good .1 .1 .0 .0)
 
 pub show-all-spec : {M : Type 1} → statement M
 show-all-spec =
