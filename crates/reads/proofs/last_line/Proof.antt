@@ -13,16 +13,24 @@ returns c = last-dash _ _ _ (sym (c .before .dash-bdry .ensures) ∙ c .if1 .tak
 -- the dot line, in SMTP and POP3
 returns-2 : tie.Need-returns-2
 unfolding lastLine
-returns-2 c = rw (c .before .before .enum-told .given .1, sym (c .before .before .before .before .before .dash-bdry .ensures) ∙ c .before .before .before .before .if1 .left) (c .equals .ensures)
+returns-2 c =
+    let told = c .before .before in
+    let plain = told .before .before in
+    rw (told .enum-told .given .1, sym (plain .before .dash-bdry .ensures) ∙ plain .if1 .left) (c .equals .ensures)
 
 returns-3 : tie.Need-returns-3
 unfolding lastLine
-returns-3 c = rw (c .before .before .enum-told2 .given .1, sym (c .before .before .before .before .before .dash-bdry .ensures) ∙ c .before .before .before .before .if1 .left) (c .equals2 .ensures)
+returns-3 c =
+    let told = c .before .before in
+    let plain = told .before .before in
+    rw (told .enum-told2 .given .1, sym (plain .before .dash-bdry .ensures) ∙ plain .if1 .left) (c .equals2 .ensures)
 
 -- none, in IMAP
 returns-4 : tie.Need-returns-4
 unfolding lastLine
-returns-4 c = rw (c .enum-told3 .given .1, sym (c .before .before .before .dash-bdry .ensures) ∙ c .before .before .if1 .left)
+returns-4 c =
+    let plain = c .before .before in
+    rw (c .enum-told3 .given .1, sym (plain .before .dash-bdry .ensures) ∙ plain .if1 .left)
 
 pub last-line-spec : {M : Type 1} → statement M
 last-line-spec =
