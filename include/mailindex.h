@@ -119,15 +119,15 @@ void mailindex_imap_client(const uint8_t *bytes, size_t length, uint32_t *table,
  * nothing more and repeats its answer.
  *
  * What is taken: all before the read that is not finished, and of it, in a sized body (kind 4) every byte, in a part's body and before the first part every
- * finished line. So a caller keeps at most one unfinished line from window to window, whatever the body's size. DONE takes up to its place, any
- * other end takes nothing of its window.
+ * finished line. So a caller keeps at most one unfinished line from window to window, whatever the body's size (or, once in an IMAP mail with parts, the
+ * literal's last bytes, fewer than its boundary has). DONE takes up to its place, any other end takes nothing of its window.
  *
  * An unfinished line is read again from its first byte when more of it is shown. A line of n bytes shown again for every k of them costs n * n / k / 2: where lines
  * can be long, let the windows grow, to twice their size whenever nothing was taken, and show again only when that much has come. What was taken
  * is never looked at again. */
 
 /* A session between windows: the caller holds it, the library makes it. What its numbers are is not said; it may be copied, moved and stored, and a copy goes
- * on from where the session was then. It holds no pointer and no byte of the session but open boundaries. */
+ * on from where the session was then. It holds no pointer and no byte of the session but boundaries. */
 #define MAILINDEX_SESSION_NUMBERS 24
 #define MAILINDEX_SESSION_BOUNDARIES 648
 struct mailindex_session {

@@ -35,29 +35,26 @@ pub fn text(
     ensures { λ r. ⌜ ((k : List ℕ) → TurnOf (now (w .entry)) base at k (now (table .entry)) log (Phase.Text mail encoding) r (now (table .exit))) ⌝ }
 {
     let mut p = at;
-    let mut n = log;
+    let mut log = log;
     loop {
         match line(w, p) {
             Read::Stop(_) => {
                 let phase = Phase::Text(mail, encoding);
-                return Turn::Stop(Spot {
-                    phase,
-                    taken: p,
-                    log: n,
-                });
+                let taken = p;
+                return Turn::Stop(Spot { phase, taken, log });
             }
             Read::To(e) => {
                 if reading::equals(&w[p..e], b".\r\n") {
-                    let noted = note(table, n, BODY_STOP, base + p, 0, Encoding::Unsaid);
+                    let noted = note(table, log, BODY_STOP, base + p, 0, Encoding::Unsaid);
                     return onward(noted, after_mail(mail, base + e), e);
                 }
-                match note(table, n, BODY_LINE, base + p, e - p, encoding) {
+                match note(table, log, BODY_LINE, base + p, e - p, encoding) {
                     Noted::Stopped(a) => {
                         return over(a, e);
                     }
                     Noted::Written(next) => {
                         p = e;
-                        n = next;
+                        log = next;
                     }
                 }
             }

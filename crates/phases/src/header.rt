@@ -52,19 +52,16 @@ pub fn head(
     ensures { λ r. ⌜ HeadIs (now (w .entry)) base at (now (kept .entry)) (now (table .entry)) log (Phase.Head mail heard level) r (now (kept .exit)) (now (table .exit)) ⌝ }
 {
     let mut p = at;
-    let mut n = log;
+    let mut log = log;
     let mut known = heard;
     loop {
         match line(w, p) {
             Read::Stop(_) => {
                 let phase = Phase::Head(mail, known, level);
-                return Turn::Stop(Spot {
-                    phase,
-                    taken: p,
-                    log: n,
-                });
+                let taken = p;
+                return Turn::Stop(Spot { phase, taken, log });
             }
-            Read::To(e) => match note(table, n, HEADER_LINE, base + p, e - p, Encoding::Unsaid) {
+            Read::To(e) => match note(table, log, HEADER_LINE, base + p, e - p, Encoding::Unsaid) {
                 Noted::Stopped(a) => {
                     return over(a, e);
                 }
@@ -77,7 +74,7 @@ pub fn head(
                     }
                     known = learn(w, p, e, known, level, kept);
                     p = e;
-                    n = next;
+                    log = next;
                 }
             },
         }

@@ -214,29 +214,20 @@ pub fn skipping(
         match line(w, p) {
             Read::Stop(_) => {
                 let phase = Phase::Skipping(mail, level);
-                return Turn::Stop(Spot {
-                    phase,
-                    taken: p,
-                    log,
-                });
+                let taken = p;
+                return Turn::Stop(Spot { phase, taken, log });
             }
             Read::To(e) => {
                 if reads::last_line(&w[p..e], &kept[1..end], mail) {
                     let phase = popped(mail, level, base + e);
-                    return Turn::On(Spot {
-                        phase,
-                        taken: e,
-                        log,
-                    });
+                    let taken = e;
+                    return Turn::On(Spot { phase, taken, log });
                 }
                 let rest = short_rest(mail, base + e, n);
                 if 0 < rest {
                     let phase = Phase::Resting(mail, level, rest - 1);
-                    return Turn::On(Spot {
-                        phase,
-                        taken: e,
-                        log,
-                    });
+                    let taken = e;
+                    return Turn::On(Spot { phase, taken, log });
                 }
                 p = e;
             }

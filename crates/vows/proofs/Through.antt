@@ -29,7 +29,7 @@ same-calls s {x} h (call {ws = ws} {gs = gs} w g shows more) =
     let c : Call = record { gives = r; table = g .table } in
     let took : getD (g .answer) 3 0 ≡ r .taken = ap (λ (n : List ℕ). getD n 3 0) (shows .answer) in
     let rest = subst (λ (n : ℕ). SameCalls (record { session = r .session; table = g .table; untaken = drop n (x .untaken ++ w) }) ws gs)
-            took (same-calls (r .session) (shows .holds) more) in
+    took (same-calls (r .session) (shows .holds) more) in
     record {
       calls = c ∷ rest .calls;
       end = rest .end;

@@ -102,7 +102,7 @@ returns-2 c =
     λ k.
     rw (c .onward .ensures)
     (looped-turn (loop .loop .inv) k _ (onwardOf r next (e .e .given .0 .0))
-    (leads piece k (loop .loop .table) (loop .loop .n) r (noted .note .last .0) next (noted .note .ensures) (over .after-mail .ensures k)))
+    (leads piece k (loop .loop .table) (loop .loop .log) r (noted .note .last .0) next (noted .note .ensures) (over .after-mail .ensures k)))
 
 -- ---- a line of the body: it begins before the limit
 add-note-2 : tie.Need-add-note-2 Inv-loop μ-loop
