@@ -17,6 +17,8 @@ mod list;
 mod packet;
 mod parser;
 mod race;
+mod race_inputs;
+mod race_library;
 mod reading;
 mod rng;
 mod selftest;

@@ -1,140 +1,34 @@
-//! The proved library beside the Rust, on the same bytes in one process: the same listing, and the ratio of their speeds.
+//! The proved library beside the Rust, on the same bytes in one process: the same listing, in one call and by windows, and their speeds.
 
-use crate::case::{Answer, Event, Listing};
+use crate::case::{Answer, Event};
 use crate::judge::SwiftJudge;
-use std::ffi::{CString, c_char, c_int, c_void};
+use crate::race_inputs::{Input, Windows, inputs};
+use crate::race_library::{INCOMPLETE, LONG_BOUNDARY, Library};
+use std::mem::take;
 use std::time::{Duration, Instant};
 
-unsafe extern "C" {
-    fn dlopen(path: *const c_char, flags: c_int) -> *mut c_void;
-    fn dlsym(library: *mut c_void, name: *const c_char) -> *mut c_void;
-}
-
-const RTLD_NOW: c_int = 2;
-
-/// An entry of include/mailindex.h.
-type Dissect = unsafe extern "C" fn(*const u8, usize, *mut u32, usize, *mut u64);
-
-struct Library {
-    entries: Vec<(u8, Dissect)>,
-}
-
-impl Library {
-    fn open(path: &str) -> Result<Library, String> {
-        let name = CString::new(path).map_err(|why| why.to_string())?;
-        let library = unsafe { dlopen(name.as_ptr(), RTLD_NOW) };
-        if library.is_null() {
-            return Err(format!("{path} cannot be loaded"));
+/// The last answer by windows over one buffer, each with so many bytes more. Where they grow and nothing was taken, the next one is twice as long.
+fn windows(library: &Library, input: &Input, size: usize, grow: bool, table: &mut [u32]) -> [u64; 3] {
+    let bytes = &input.bytes[..];
+    let mut session = library.begin(input.entry);
+    let (mut from, mut to, mut due) = (0, 0, 0);
+    loop {
+        to = bytes.len().min(due.max(to + size));
+        let [result, place, count, taken] = library.show(&mut session, &bytes[from..to], table);
+        if result != INCOMPLETE || to == bytes.len() {
+            return [result, place, count];
         }
-        let names = [(b'S', "smtp_client"), (b's', "smtp_server"), (b'P', "pop3_server"), (b'I', "imap_client")];
-        let mut entries = Vec::new();
-        for (letter, name) in names {
-            let symbol = CString::new(format!("mailindex_{name}")).map_err(|why| why.to_string())?;
-            let found = unsafe { dlsym(library, symbol.as_ptr()) };
-            if found.is_null() {
-                return Err(format!("{path} has no mailindex_{name}"));
-            }
-            entries.push((letter, unsafe { std::mem::transmute::<*mut c_void, Dissect>(found) }));
-        }
-        Ok(Library { entries })
-    }
-
-    /// Result, place and count; the events are in the table.
-    fn dissect(&self, entry: u8, bytes: &[u8], table: &mut [u32]) -> [u64; 3] {
-        let call = self.entries.iter().find(|(letter, _)| *letter == entry).expect("an entry's letter").1;
-        let mut answer = [0; 3];
-        unsafe { call(bytes.as_ptr(), bytes.len(), table.as_mut_ptr(), table.len(), answer.as_mut_ptr()) };
-        answer
+        from += taken as usize;
+        due = if grow && taken == 0 { to + (to - from) } else { 0 };
     }
 }
 
-pub struct Input {
-    name: &'static str,
-    entry: u8,
-    bytes: Vec<u8>,
-}
-
-const ENVELOPE: &str = "EHLO a\r\nMAIL FROM: <b@c>\r\nRCPT TO: <d@e>\r\nDATA\r\n";
-
-const TEXT: &[u8] = b"The gradient profile of section four is attached; please confirm before Friday. ";
-
-const BASE64: &[u8] = b"ABCDEFGHIJKLMNOPQRSTUVWXYZabcdefghijklmnopqrstuvwxyz0123456789+/";
-
-/// So many bytes of a pattern.
-fn cycle(pattern: &[u8], length: usize) -> Vec<u8> {
-    pattern.iter().copied().cycle().take(length).collect()
-}
-
-/// Head, a unit repeated as often as fits into `size`, tail.
-fn filled(head: &str, unit: &[u8], tail: &str, size: usize) -> Vec<u8> {
-    let mut bytes = head.as_bytes().to_vec();
-    while bytes.len() + unit.len() + tail.len() <= size {
-        bytes.extend_from_slice(unit);
-    }
-    bytes.extend_from_slice(tail.as_bytes());
-    bytes
-}
-
-fn line(pattern: &[u8], columns: usize) -> Vec<u8> {
-    [cycle(pattern, columns), b"\r\n".to_vec()].concat()
-}
-
-fn body(unit: &[u8], size: usize) -> Vec<u8> {
-    filled(&format!("{ENVELOPE}To: d\r\n\r\n"), unit, ".\r\n", size)
-}
-
-/// A mail with one part, its content made of the unit.
-fn part(boundary: &str, encoding: &str, unit: &[u8], size: usize) -> Vec<u8> {
-    let head = format!("{ENVELOPE}Content-Type: multipart/mixed; boundary={boundary}\r\n\r\n--{boundary}\r\n{encoding}\r\n");
-    filled(&head, unit, &format!("\r\n--{boundary}--\r\n.\r\n"), size)
-}
-
-fn nested() -> Vec<u8> {
-    let mut mail = String::from("+OK 900 octets\r\n");
-    for level in 1..=4 {
-        mail += &format!("Content-Type: multipart/mixed; boundary=level{level}\r\n\r\n--level{level}\r\n");
-    }
-    mail += "Content-Transfer-Encoding: 7bit\r\n\r\nthe innermost part\r\n--level4--\r\n--level1\r\n";
-    mail += "Content-Type: text/plain\r\n\r\na part behind it\r\n--level3--\r\n--level1\r\n";
-    mail += "Content-Type: text/plain\r\n\r\nanother\r\n--level2--\r\n--level1\r\n";
-    mail += "Content-Type: text/plain\r\n\r\nthe last one\r\n--level1--\r\n.\r\n";
-    mail.into_bytes()
-}
-
-fn literal(size: usize) -> Vec<u8> {
-    let length = size - 40;
-    let mut bytes = format!("a APPEND x {{{length:08}}}\r\nTo: d\r\n\r\n").into_bytes();
-    bytes.extend(cycle(TEXT, length - 9));
-    bytes.extend_from_slice(b"\r\n");
-    bytes
-}
-
-/// Document 01's kinds of mail, then hostile ones, of about this size each.
-fn inputs(size: usize) -> Vec<Input> {
-    let long = "q".repeat(1000);
-    let near = |length: usize| [b"\r\n--".to_vec(), vec![b'q'; length], b"x".to_vec()].concat();
-    let named = |name, entry, bytes| Input { name, entry, bytes };
-    vec![
-        named("SMTP body, 76 columns", b'S', body(&line(TEXT, 76), size)),
-        named("one base64 part", b'S', part("frontier", "Content-Transfer-Encoding: base64\r\n", &line(BASE64, 76), size)),
-        named("many small POP3 mails", b'P', filled("", b"+OK 120 octets\r\nFrom: a@b\r\nTo: c@d\r\nSubject: gradients\r\n\r\nSee the office.\r\nRegards\r\n.\r\n", "", size)),
-        named("an IMAP literal", b'I', literal(size)),
-        named("multiparts four deep", b'P', filled("", &nested(), "", size)),
-        named("short lines", b'S', body(b"a\r\n", size)),
-        named("long lines", b'S', body(&line(TEXT, 10_000), size)),
-        named("near delimiters", b'S', part("qqqqqqqqqqqqqqqqqqqq", "", &near(19), size)),
-        named("a long boundary", b'S', part(&long, "", &near(999), size)),
-        named("lines of a megabyte", b'S', body(&line(TEXT, 1_000_000), size)),
-        named("hyphens only", b'S', part("q", "", &[b'-'; 64], size)),
-    ]
-}
-
-/// The fastest of at least five runs, as many as fit into a second.
+/// The fastest of five runs: of as many as fit into a second where more do, of fewer where five would take over ten.
 fn best(mut run: impl FnMut()) -> Duration {
     let begun = Instant::now();
     let mut best = Duration::MAX;
     let mut runs = 0;
-    while runs < 5 || begun.elapsed() < Duration::from_secs(1) {
+    while begun.elapsed() < Duration::from_secs(if runs < 5 { 10 } else { 1 }) {
         let start = Instant::now();
         run();
         best = best.min(start.elapsed());
@@ -143,60 +37,152 @@ fn best(mut run: impl FnMut()) -> Duration {
     best
 }
 
-struct Raced {
-    events: usize,
-    ours: Duration,
-    theirs: Duration,
+/// A listing, and the time it takes.
+struct Timed {
+    answer: [u64; 3],
+    events: Vec<u32>,
+    time: Duration,
 }
 
-/// Both on one input; an error where they do not list the same.
-fn race(library: &Library, judge: &SwiftJudge, input: &Input) -> Result<Raced, String> {
-    let (entry, bytes) = (input.entry, &input.bytes[..]);
-    let mut kept: Vec<Event> = Vec::new();
-    let mut listing = Listing::default();
-    let theirs = best(|| {
-        let mut events = std::mem::take(&mut kept);
-        events.clear();
-        if let (Answer::Session(told), _) = judge.session(entry, bytes, bytes.len(), events) {
-            listing = Listing { result: told.result, place: told.place, events: Vec::new() };
-            kept = told.events;
+impl Timed {
+    /// What is listed into a table.
+    fn table(table: &mut [u32], mut list: impl FnMut(&mut [u32]) -> [u64; 3]) -> Timed {
+        table.fill(0);
+        let mut answer = [0; 3];
+        let time = best(|| answer = list(table));
+        Timed {
+            answer,
+            events: table[..4 * answer[2] as usize].to_vec(),
+            time,
         }
-    });
-    let mut table = vec![0u32; 4 * bytes.len()];
-    let mut answer = [0; 3];
-    let ours = best(|| answer = library.dissect(entry, bytes, &mut table));
-    let same = answer == [listing.result as u64, listing.place as u64, kept.len() as u64];
-    if !same || table[..4 * kept.len()] != kept.concat()[..] {
-        return Err(format!("{}: the listings differ", input.name));
     }
-    Ok(Raced { events: kept.len(), ours, theirs })
+
+    fn rust(judge: &SwiftJudge, input: &Input) -> Timed {
+        let mut kept: Vec<Event> = Vec::new();
+        let mut answer = [0; 3];
+        let time = best(|| {
+            let mut events = take(&mut kept);
+            events.clear();
+            if let (Answer::Session(told), _) = judge.session(input.entry, &input.bytes, input.bytes.len(), events) {
+                answer = [told.result as u64, told.place as u64, told.events.len() as u64];
+                kept = told.events;
+            }
+        });
+        Timed { answer, events: kept.concat(), time }
+    }
+
+    fn lists_as(&self, other: &Timed) -> bool {
+        self.answer == other.answer && self.events == other.events
+    }
+
+    fn speed(&self, input: &Input) -> f64 {
+        input.bytes.len() as f64 / self.time.as_secs_f64() / 1e6
+    }
+
+    /// How often this time goes into the other's.
+    fn ratio(&self, other: &Timed) -> f64 {
+        other.time.as_secs_f64() / self.time.as_secs_f64()
+    }
 }
 
-fn speed(bytes: usize, time: Duration) -> f64 {
-    bytes as f64 / time.as_secs_f64() / 1e6
+/// An input, listed by the Rust and in one call alike, and the table that it is listed into.
+struct Raced<'a> {
+    library: &'a Library,
+    input: &'a Input,
+    table: Vec<u32>,
+    call: Timed,
+    rust: Timed,
+}
+
+impl<'a> Raced<'a> {
+    fn new(library: &'a Library, judge: &SwiftJudge, input: &'a Input) -> Result<Raced<'a>, String> {
+        let mut table = vec![0; 4 * input.bytes.len()];
+        let rust = Timed::rust(judge, input);
+        let call = Timed::table(&mut table, |table| library.dissect(input.entry, &input.bytes, table));
+        if !call.lists_as(&rust) {
+            return Err(format!("{}: the listings differ", input.name));
+        }
+        Ok(Raced { library, input, table, call, rust })
+    }
+
+    /// By windows, with the same listing; nothing where it is refused.
+    fn windows(&mut self, size: usize, grow: bool) -> Result<Option<Timed>, String> {
+        let (library, input) = (self.library, self.input);
+        let timed = Timed::table(&mut self.table, |table| windows(library, input, size, grow, table));
+        match input.windows {
+            Windows::Refused if timed.answer[0] == LONG_BOUNDARY => Ok(None),
+            Windows::Same | Windows::Growing if timed.lists_as(&self.call) => Ok(Some(timed)),
+            _ => Err(format!("{}: by windows of {size} bytes the listing is another", input.name)),
+        }
+    }
+
+    /// Speed by windows, and the cost beside one call.
+    fn cells(&mut self, size: usize, grow: bool) -> Result<String, String> {
+        Ok(match self.windows(size, grow)? {
+            Some(timed) => format!("{:.0} | {:.2}", timed.speed(self.input), self.call.ratio(&timed)),
+            None => format!("refused, {LONG_BOUNDARY} | -"),
+        })
+    }
+
+    fn print(&mut self) -> Result<(), String> {
+        let input = self.input;
+        let ours = format!("{} | {} | {:.0}", input.bytes.len(), self.call.answer[2], self.call.speed(input));
+        let theirs = format!("{:.0} | {:.2}", self.rust.speed(input), self.call.ratio(&self.rust));
+        let mut row = |name: &str, grow: bool| -> Result<(), String> {
+            let (large, small) = (self.cells(LARGE, grow)?, self.cells(SMALL, grow)?);
+            println!("| {name} | {ours} | {large} | {small} | {theirs} |");
+            Ok(())
+        };
+        row(input.name, false)?;
+        if input.windows == Windows::Growing {
+            row(&format!("{}, windows grow", input.name), true)
+        } else {
+            Ok(())
+        }
+    }
 }
 
 const MB: usize = 1 << 20;
+const LARGE: usize = 1 << 16;
+const SMALL: usize = 1460;
+
+fn milliseconds(timed: &Timed) -> String {
+    format!(" {:.2} |", timed.time.as_secs_f64() * 1e3)
+}
+
+/// Time against size: a row for each input in one call, and another by windows, which grow where they have to.
+fn sizes(library: &Library, judge: &SwiftJudge) -> Result<[String; 2], String> {
+    let sizes: Vec<Vec<Input>> = [1, 2, 4, 8, 16].iter().map(|n| inputs(n * MB)).collect();
+    let mut rows = [String::new(), String::new()];
+    for kind in 0..sizes[0].len() {
+        rows.iter_mut().for_each(|row| *row += &format!("| {} |", sizes[0][kind].name));
+        for inputs in &sizes {
+            let input = &inputs[kind];
+            let mut raced = Raced::new(library, judge, input)?;
+            rows[0] += &milliseconds(&raced.call);
+            let timed = raced.windows(SMALL, input.windows == Windows::Growing)?;
+            rows[1] += &timed.map_or(format!(" refused, {LONG_BOUNDARY} |"), |timed| milliseconds(&timed));
+        }
+        rows.iter_mut().for_each(|row| row.push('\n'));
+    }
+    Ok(rows)
+}
 
 pub fn run(path: &str) -> Result<bool, String> {
     let library = Library::open(path)?;
     let judge = SwiftJudge::for_ascii();
-    println!("| input | bytes | events | ours, MB/s | the Rust, MB/s | ratio |\n|---|---|---|---|---|---|");
+    println!(
+        "| input | bytes | events | one call, MB/s | windows of 64 KiB, MB/s | cost | windows of 1,460, MB/s | cost | the Rust, MB/s | ratio |"
+    );
+    println!("|---|---|---|---|---|---|---|---|---|---|");
     for input in inputs(16 * MB) {
-        let Raced { events, ours, theirs } = race(&library, &judge, &input)?;
-        let bytes = input.bytes.len();
-        let ratio = theirs.as_secs_f64() / ours.as_secs_f64();
-        println!("| {} | {bytes} | {events} | {:.0} | {:.0} | {ratio:.2} |", input.name, speed(bytes, ours), speed(bytes, theirs));
+        Raced::new(&library, &judge, &input)?.print()?;
     }
-    println!("\n| ours, ms for | 1 MB | 2 MB | 4 MB | 8 MB | 16 MB |\n|---|---|---|---|---|---|");
-    let sizes: Vec<Vec<Input>> = [1, 2, 4, 8, 16].iter().map(|n| inputs(n * MB)).collect();
-    for kind in 0..sizes[0].len() {
-        print!("| {} |", sizes[0][kind].name);
-        for inputs in &sizes {
-            let Raced { ours, .. } = race(&library, &judge, &inputs[kind])?;
-            print!(" {:.2} |", ours.as_secs_f64() * 1e3);
-        }
-        println!();
+    for (how, rows) in ["one call", "windows of 1,460"].iter().zip(sizes(&library, &judge)?) {
+        println!(
+            "\n| {how}, ms for | 1 MB | 2 MB | 4 MB | 8 MB | 16 MB |\n|---|---|---|---|---|---|\n{}",
+            rows.trim_end()
+        );
     }
     Ok(true)
 }
