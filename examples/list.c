@@ -136,12 +136,12 @@ static int list_pieces(const struct entry *entry, const struct pieces *pieces, s
         if (got < 0 || !has_slots(l, all + l->held)) return unheld();
         int ended = got == 0 && most > 0;
         most = pieces->then;
-        if (l->held < due && !ended) continue;
+        if (l->held < due && !ended && memchr(l->bytes + l->held - got, '\n', (size_t)got) == NULL) continue;
         size_t taken = show(&session, l);
         all += taken;
         if (!print_events(l)) return 1;
         if (ended || l->answer[0] != MAILINDEX_INCOMPLETE) return print_answer(l);
-        /* An unfinished line is read again from its first byte: so that a long one is not read too often, twice as much is awaited. */
+        /* An unfinished line is read again from its first byte: so that a long one is not read too often, its end is awaited, or twice as much. */
         due = taken > 0 || pieces->at_once ? 0 : 2 * l->held;
     }
 }

@@ -270,7 +270,7 @@ fn list_pieces(pieces: Pieces, out: &mut impl Write) -> Result<(), Failure> {
         let ended = got == 0 && most > 0;
         held.extend_from_slice(&piece[..got]);
         most = pieces.then;
-        if held.len() < due && !ended {
+        if held.len() < due && !ended && !piece[..got].contains(&b'\n') {
             continue;
         }
         lend(&mut table, all + held.len(), printed);
@@ -282,7 +282,7 @@ fn list_pieces(pieces: Pieces, out: &mut impl Write) -> Result<(), Failure> {
         if ended || shown.answer.result != mailindex::INCOMPLETE {
             return print_answer(shown.answer, out);
         }
-        // An unfinished line is read again from its first byte: so that a long one is not read too often, twice as much is awaited.
+        // An unfinished line is read again from its first byte: so that a long one is not read too often, its end is awaited, or twice as much.
         due = if shown.taken > 0 || pieces.at_once { 0 } else { 2 * held.len() };
     }
 }
