@@ -123,8 +123,8 @@ void mailindex_imap_client(const uint8_t *bytes, size_t length, uint32_t *table,
  * literal's last bytes, fewer than its boundary has). DONE takes up to its place, any other end takes nothing of its window.
  *
  * An unfinished line is read again from its first byte when more of it is shown. A line of n bytes shown again for every k of them costs n * n / k / 2: where lines
- * can be long, let the windows grow, to twice their size whenever nothing was taken, and show again only when that much has come. What was taken
- * is never looked at again. */
+ * can be long, and a window took nothing, show again only when a line's end or twice as much has come: so do the examples. What was taken is never
+ * looked at again. */
 
 /* A session between windows: the caller holds it, the library makes it. What its numbers are is not said; it may be copied, moved and stored, and a copy goes
  * on from where the session was then. It holds no pointer and no byte of the session but boundaries. */
