@@ -7,7 +7,7 @@
  *
  * The caller sees to it that
  * - `bytes` points to `length` bytes that nobody changes during the call, `table` to `numbers` numbers, and every other pointer to as many as it says;
- * - what one call is given does not overlap;
+ * - what a call may write overlaps nothing else that it is given, and nobody else uses it during the call;
  * - no pointer is null, also where its length is 0, and all are aligned for their type.
  * Nothing else is asked: any bytes and any length get an answer, and every number of the table behind the events stays as it was.
  */
@@ -89,7 +89,7 @@ enum mailindex_result {
     MAILINDEX_TABLE_FULL = 10,   /* an event is due and no slot is free [that event's offset] */
     /* By windows only: */
     MAILINDEX_LONG_BOUNDARY = 12, /* a multipart's boundary of more than 70 bytes would open [after its blank line] */
-    MAILINDEX_NO_SESSION = 20     /* the record is none that mailindex_begin and mailindex_show have made; nothing was done [0] */
+    MAILINDEX_NO_SESSION = 20     /* the record cannot be a session's: mailindex_begin and mailindex_show make none such; nothing was done [0] */
 };
 
 /* answer[0] is the result, answer[1] the place, answer[2] the number of events in the table.
@@ -109,25 +109,28 @@ void mailindex_imap_client(const uint8_t *bytes, size_t length, uint32_t *table,
  *     uint64_t choices[MAILINDEX_CHOICES] = {0};
  *     choices[MAILINDEX_ENTRY] = MAILINDEX_POP3_SERVER;
  *     struct mailindex_session session;
- *     mailindex_begin(choices, session.numbers, session.boundaries);
+ *     mailindex_begin(choices, session.numbers, session.boundaries); (INCOMPLETE, or there is no such entry)
  *     for each window, the bytes that the last one left untaken in front of it:
  *         mailindex_show(session.numbers, session.boundaries, bytes, length, table, numbers, answer);
  *         answer[3] bytes of it were taken and need not be kept.
  *
- * However the session is cut, also byte by byte or with empty windows, its last answer and table are those of one call on all its bytes; a boundary of more than 70
- * bytes apart, which only windows refuse (12). INCOMPLETE means: show more, if there is more. After any other answer the session is over: it takes
- * nothing more and repeats its answer.
+ * However the session is cut, also byte by byte or with empty windows, its last answer and table are those of one call on all its bytes. Two refusals
+ * apart: a boundary of more than 70 bytes (12), which only windows refuse; and more bytes than the limit (2), where the events of earlier windows stay.
+ * INCOMPLETE means: show more, if there is more. After any other answer the session is over: it takes nothing more and repeats its answer. So is one
+ * that met TABLE_FULL: who lends less than a slot for each byte keeps a copy of the record, and goes back to it with that window and a larger table.
  *
- * What is taken: all before the read that is not finished, and of it, in a sized body (kind 4) every byte, in a part's body and before the first part every
- * finished line. So a caller keeps at most one unfinished line from window to window, whatever the body's size (or, once in an IMAP mail with parts, the
- * literal's last bytes, fewer than its boundary has). DONE takes up to its place, any other end takes nothing of its window.
+ * What is taken: all before the read that is not finished, and of it, in a sized body (kind 4) every byte, in a part's body and before the first part
+ * every finished line. So a caller keeps at most one unfinished line from window to window, whatever the body's size; or the two bytes behind a
+ * delimiter or a literal, or, once in an IMAP mail with parts, the literal's last bytes, fewer than its boundary has. INCOMPLETE's place is where that
+ * read began, which may lie before bytes that were taken. DONE takes up to its place, any other end takes nothing of its window.
  *
- * An unfinished line is read again from its first byte when more of it is shown. A line of n bytes shown again for every k of them costs n * n / k / 2: where lines
- * can be long, and a window took nothing, show again only when a line's end or twice as much has come: so do the examples. What was taken is never
- * looked at again. */
+ * An unfinished line is read again from its first byte when more of it is shown. A line of n bytes shown again for every k of them costs
+ * n * n / k / 2: where lines can be long, and a window took nothing, show again only when a line's end or twice as much has come: so do the examples.
+ * What was taken is never looked at again. */
 
-/* A session between windows: the caller holds it, the library makes it. What its numbers are is not said; it may be copied, moved and stored, and a copy goes
- * on from where the session was then. It holds no pointer and no byte of the session but boundaries. */
+/* A session between windows: the caller holds it, the library makes it. What its numbers are is not said; it may be copied, moved and stored, and a
+ * copy goes on from where the session was then. It holds no pointer and no byte of the session but boundaries. Any other content is safe to show: it is
+ * answered NO_SESSION, or read as the session that it happens to describe. */
 #define MAILINDEX_SESSION_NUMBERS 24
 #define MAILINDEX_SESSION_BOUNDARIES 648
 struct mailindex_session {
@@ -149,12 +152,12 @@ enum mailindex_entry {
     MAILINDEX_IMAP_CLIENT = 4
 };
 
-/* Begins a session: INCOMPLETE; or NO_SESSION where a choice is none of those above, and the record is then no session's.
- * choices points to MAILINDEX_CHOICES numbers, numbers and boundaries to those of a struct mailindex_session. */
-uint32_t mailindex_begin(const uint64_t *choices, uint64_t *numbers, uint8_t *boundaries);
+/* Begins a session: INCOMPLETE; or NO_SESSION where the entry is none of the four, or a choice without a name is not 0: the record is then no session's.
+ * choices points to MAILINDEX_CHOICES numbers, session_numbers and boundaries to those of a struct mailindex_session. */
+uint32_t mailindex_begin(const uint64_t *choices, uint64_t *session_numbers, uint8_t *boundaries);
 
-/* Shows a window. answer[0] is the result, answer[1] the place, answer[2] the number of events in the table, all as of one call on the bytes so far; answer[3] is
- * how many bytes of the window were taken. Places and offsets count from the session's first byte.
+/* Shows a window. answer[0] is the result, answer[1] the place, answer[2] the number of events in the table, all as of one call on the bytes so far;
+ * answer[3] is how many bytes of the window were taken. Places and offsets count from the session's first byte.
  *
  * session_numbers and boundaries are those of the session's struct, answer has four numbers. The table keeps the events of earlier windows, in front:
  * it may be another one, larger and with these copied, from window to window. A slot for each byte shown so far always suffices. */
