@@ -1,6 +1,6 @@
 -- The numbers of a record stand for it again.
 -- Assumes nothing.
-use mathlib.Core.Path.{_≡_, refl, sym, ap, _∙_}
+use mathlib.Core.Path.{_≡_, refl, ap, _∙_}
 use mathlib.Core.Bool.{Bool, true, false}
 use Prim.Native.Nat.{ℕ}
 use Rattle.events.specs.Events.{encodingNumber, resultNumber}
@@ -13,7 +13,7 @@ use Rattle.phases.specs.declared.Phase.{Phase}
 use Rattle.phases.specs.declared.Phase.the-variants as is
 use Rattle.rules.specs.declared.Mail.{Mail}
 use Rattle.rules.specs.declared.Mail.the-variants.{Smtp, Pop3, Imap}
-use Rattle.flat.specs.Flats.{flatOf, bit, isSet, rowIn, row, numbersOf, mailOf, encodingOf, outcomeOf, fieldsOf, phaseBy, phaseOf, takenOf, logOf}
+use Rattle.flat.specs.Flats.{flatOf, bit, isSet, rowIn, numbersOf, mailOf, encodingOf, outcomeOf, fieldsOf, phaseBy, phaseOf, takenOf, logOf}
 use Rattle.flat.specs.declared.Flat.{Flat}
 
 bit-again : (b : Bool) → isSet (bit b) ≡ b

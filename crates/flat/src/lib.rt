@@ -1,7 +1,7 @@
 // A session's record as numbers, for callers that know no enum: there and back.
 ghost use mathlib.Core.Path.{_≡_};
 ghost use mathlib.Core.Bool.{false};
-ghost use Rattle.flat.specs.Flats.{flat, plain, flatOf, numbersOf, row, rowBy, bit, isSet, mailOf, encodingOf, outcomeOf, fieldsOf, heardOf, phaseBy, phaseOf};
+ghost use Rattle.flat.specs.Flats.{flat, plain, flatOf, numbersOf, row, rowBy, bit, mailOf, encodingOf, outcomeOf, fieldsOf, heardOf, phaseBy, phaseOf};
 use events::Encoding;
 use events::Log;
 use events::Outcome;

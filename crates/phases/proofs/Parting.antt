@@ -19,7 +19,8 @@ use Rattle.events.specs.declared.Outcome.the-variants.{BadDelimiter, Incomplete
 use Rattle.fields.specs.Common.{part, unknown}
 use Rattle.reading.proofs.Places.{by-test}
 use Rattle.reading.proofs.Words.{rest-is}
-use Rattle.reading.specs.Bytes.{startsWith, same, endsWith, firstPlace}
+use Rattle.reading.specs.Blocks.{Last}
+use Rattle.reading.specs.Bytes.{holds, startsWith, same, endsWith, firstPlace}
 use Rattle.reading.specs.Reading.{crlf, dash, delimits, aLine, bytes, delimiter, past, reach, Got, got, short, parted, fetch}
 use Rattle.reading.specs.declared.Place.{Place}
 use Rattle.reading.specs.declared.Place.the-variants.{At, Nowhere}
@@ -40,7 +41,7 @@ use Rattle.windows.specs.Stands.{Stand, inPreamble, inContent, copied, clipped,
 use Rattle.windows.specs.Windows.{over, keeps, landed, lands}
 use Rattle.phases.proofs.Turning.{to-end, leads-still}
 use Rattle.phases.proofs.Heading.{slot-length, begins-later}
-use Rattle.phases.specs.Phasing.{slot, outside, Slots, Kept, unheard, stateOf, Fits, Enters, Piece, Leaves, Goes, ByLines, Found, Waits, SoughtIs, LastLf}
+use Rattle.phases.specs.Phasing.{slot, outside, Slots, Kept, unheard, stateOf, Fits, Enters, Piece, Leaves, Goes, ByLines, Found, Waits, SoughtIs}
 use Rattle.phases.specs.declared.Heard.{Heard}
 use Rattle.phases.specs.declared.Phase.{Phase}
 use Rattle.phases.specs.declared.Phase.the-variants as is
@@ -111,29 +112,15 @@ outermost-slot k (suc i) = outermost-slot k i
 outermost-length : {k : List ℕ} (i : ℕ) → Slots k → length (outermost (slot k i) (outside k i)) ≡ getD k (0 * 72) 0
 outermost-length {k} i s = ap length (outermost-slot k i) ∙ slot-length k 0 s (omega arith)
 
--- ---- from i on no LF stands
-pub record NoLf (s : List ℕ) (i : ℕ) : Type 0 where
-  pub within : i ≤ length s
-  pub none : (j : ℕ) → i ≤ j → j < length s → eqb (getD s j 0) 10 ≡ false
+-- ---- the last LF stands before r, or there is none and r is 0
+record LastLf (s : List ℕ) (r : ℕ) : Type 0 where
+  within : r ≤ length s
+  stands : 0 < r → getD s (r - 1) 0 ≡ 10
+  none : (j : ℕ) → r ≤ j → j < length s → eqb (getD s j 0) 10 ≡ false
 
-pub no-lf-yet : (s : List ℕ) → NoLf s (length s)
-no-lf-yet s = record { within = omega arith; none = λ j a b. absurd (omega arith) }
-
-module _ {s : List ℕ} {i : ℕ} (d : NoLf s i) where
-  pub no-lf-here : getD s (i - 1) 0 ≡ 10 → LastLf s i
-  no-lf-here h = record { within = d .within; stands = λ o. h; none = d .none }
-
-  pub no-lf-on : 0 < i → (getD s (i - 1) 0 ≡ 10 → ⊥) → NoLf s (i - 1)
-  no-lf-on o h = record {
-    within = omega (arith, d .within);
-    none = λ j a b.
-        by-test (eqb j (i - 1))
-        (λ t. rw (eqb-true j (i - 1) t) (ne-eqb (getD s (i - 1) 0) 10 h))
-        (λ t. let g : i ≤ j = omega (arith, eqb-false j (i - 1) t) in d .none j g b);
-  }
-
-  pub no-lf-none : i ≤ 0 → LastLf s 0
-  no-lf-none h = record { within = omega arith; stands = λ o. absurd (omega arith); none = λ j a b. d .none j (omega arith) b }
+last-lf : (s : List ℕ) (r : ℕ) → Last (holds 10 s) s r → LastLf s r
+unfolding holds
+last-lf s r d = record { within = d .passed .on; stands = λ o. eqb-true (getD s (r - 1) 0) 10 (d .passes o); none = d .passed .none }
 
 -- ---- lines up to a mark, where none is found: it waits behind the last LF
 last-behind : (s l r : List ℕ) (q : ℕ) → Lined s l r → LastLf s q → (length l ≤ q) × LastLf r (q - length l)
@@ -258,13 +245,13 @@ module _ (w : List ℕ) (p : ℕ) (b : List ℕ) (h : p ≤ length w) where
   pub search-found : {q : ℕ} → At q ≡ firstPlace (delimits b (part w p (length w))) (part w p (length w)) → Found w p b true (p + q + 2 + length b)
   search-found i = found-ends (delimiter-ends i)
 
-  module _ (i : Nowhere ≡ firstPlace (delimits b (part w p (length w))) (part w p (length w))) {n : ℕ} (d : LastLf (part w p (length w)) n) where
+  module _ (i : Nowhere ≡ firstPlace (delimits b (part w p (length w))) (part w p (length w))) {n : ℕ} (d : Last (holds 10 (part w p (length w))) (part w p (length w)) n) where
     vain : upTo (word (dash b)) true (drop p w) ≡ short
     unfolding fetch reach past parted
     vain = let j : Nowhere ≡ firstPlace (delimits b (drop p w)) (drop p w) = rw (rest-is w p) at i in delimited b (drop p w) ∙ rw (← j)
 
     last : LastLf (drop p w) n
-    last = rw (rest-is w p) at d
+    last = last-lf (drop p w) n (rw (rest-is w p) at d)
 
     search-waits : Waits w p b true (p + n) (there true (drop p w) n)
     search-waits = record {

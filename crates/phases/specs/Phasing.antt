@@ -260,12 +260,6 @@ abbrev pub SoughtIs : List ℕ → ℕ → List ℕ → Bool → Sought → Type
 SoughtIs w p b here (sought.Found e) = Found w p b here e
 SoughtIs w p b here (sought.Waits q there) = Waits w p b here q there
 
--- the last LF stands before r, or there is none and r is 0
-pub record LastLf (s : List ℕ) (r : ℕ) : Type 0 where
-  pub within : r ≤ length s
-  pub stands : 0 < r → getD s (r - 1) 0 ≡ 10
-  pub none : (j : ℕ) → r ≤ j → j < length s → eqb (getD s j 0) 10 ≡ false
-
 -- ---- the loop over phases
 pub record Ready (w : List ℕ) (base : ℕ) (k : List ℕ) (s : Spot) : Type 0 where
   pub within : s .taken ≤ length w

@@ -8,7 +8,7 @@ ghost use lib.ListN.{length};
 ghost use Rattle.rules.specs.Mail.{rest, skip};
 ghost use Rattle.rules.specs.Sessions.{limit};
 ghost use Rattle.reads.specs.Contracts.{Begins};
-ghost use Rattle.phases.specs.Phasing.{TurnOf, SoughtIs, Enters, LastLf, slot, outside, Slots};
+ghost use Rattle.phases.specs.Phasing.{TurnOf, SoughtIs, Enters, slot, outside, Slots};
 use crate::Phase;
 use crate::Spot;
 use crate::Turn;
@@ -296,7 +296,7 @@ fn search(w: &[u8], p: usize, b: &[u8]) -> Sought
     match reading::delimiter(&w[p..], b) {
         Place::At(q) => Sought::Found(p + q + 2 + b.len()),
         Place::Nowhere => {
-            let n = last_end(&w[p..]);
+            let n = reading::behind_last(&w[p..], b'\n');
             if n == 0 {
                 return Sought::Waits(p, true);
             }
@@ -304,18 +304,4 @@ fn search(w: &[u8], p: usize, b: &[u8]) -> Sought
             Sought::Waits(e, reading::ends_with(&w[p..e], b"\r\n"))
         }
     }
-}
-
-// The place behind the last LF; 0 where there is none.
-fn last_end(s: &[u8]) -> usize
-    ensures { λ r. ⌜ LastLf (now (s .entry)) r ⌝ }
-{
-    let mut i = s.len();
-    while 0 < i {
-        if s[i - 1] == b'\n' {
-            return i;
-        }
-        i -= 1;
-    }
-    0
 }

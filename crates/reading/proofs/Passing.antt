@@ -71,6 +71,21 @@ module _ (test : ℕ → Bool) where
         none = λ k l g. by-test (eqb k q) (λ t. rw (eqb-true k q t) f) (λ t. w .none k l (omega (arith, eqb-false k q t)));
       }
 
+      -- and the other way, back from q
+      pub passed-block-back : (n : ℕ) → n ≤ p → found (first test (p - n) n) ≡ false → Passed test s (p - n) q
+      passed-block-back n h f = record {
+        on = omega (arith, w .on);
+        within = w .within;
+        none = λ k l g. by-test (leb p k) (λ t. w .none k (leb-true p k t) g) (λ t. none-found (p - n) n f k l (omega (arith, leb-false p k t)));
+      }
+
+      pub passed-one-back : 0 < p → test (p - 1) ≡ false → Passed test s (p - 1) q
+      passed-one-back h f = record {
+        on = omega (arith, w .on);
+        within = w .within;
+        none = λ k l g. by-test (eqb k (p - 1)) (λ t. rw (eqb-true k (p - 1) t) f) (λ t. w .none k (omega (arith, eqb-false k (p - 1) t)) g);
+      }
+
       pub passed-on : {r : ℕ} → Passed test s q r → Passed test s p r
       passed-on v = record {
         on = omega (arith, w .on, v .on);

@@ -23,6 +23,11 @@ pub record Next (test : ℕ → Bool) (s : List ℕ) (p q : ℕ) : Type 0 where
   pub passed : Passed test s p q
   pub passes : q < length s → test q ≡ true
 
+-- the last place that passes the test is the one before q; where none does, q is 0
+pub record Last (test : ℕ → Bool) (s : List ℕ) (q : ℕ) : Type 0 where
+  pub passed : Passed test s q (length s)
+  pub passes : 0 < q → test (q - 1) ≡ true
+
 -- w is empty, or its last byte stands where it would if w stood at the front of l
 unfoldable pub lastStands : List ℕ → List ℕ → Bool
 lastStands w l = eqb (length w) 0 || (leb (length w) (length l) && eqb (getD l (length w - 1) 0) (getD w (length w - 1) 0))

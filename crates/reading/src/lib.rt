@@ -5,7 +5,7 @@ ghost use mathlib.Core.Bool.{_&&_};
 ghost use mathlib.Core.List.{[], _∷_};
 ghost use Prim.Native.Nat.{_+_, _<_, _≤_};
 ghost use lib.ListN.{length, take, drop};
-ghost use Rattle.reading.specs.Blocks.{dashed, Passed, Next, lastStands, Matched};
+ghost use Rattle.reading.specs.Blocks.{dashed, Passed, Next, Last, lastStands, Matched};
 ghost use Rattle.reading.specs.Bytes.{startsWith, same, endsWith, raised, first, firstPlace, found, holds, stands, contains};
 ghost use Rattle.reading.specs.Reading.{clean, dropEnd, dash, mayStand, delimits, reach, aLine};
 
@@ -69,6 +69,34 @@ fn block_holds(s: &[u8], p: usize, b: u8) -> bool
         i += 1;
     }
     seen
+}
+
+// The place behind the last b; 0 where there is none.
+pub fn behind_last(s: &[u8], b: u8) -> usize
+    ensures { λ r. ⌜ Last (holds b (now (s .entry))) (now (s .entry)) r ⌝ }
+{
+    let mut p = skip_blocks_back(s, b);
+    while 0 < p {
+        if s[p - 1] == b {
+            return p;
+        }
+        p -= 1;
+    }
+    0
+}
+
+// From the end back over the blocks in which the byte does not stand.
+fn skip_blocks_back(s: &[u8], b: u8) -> usize
+    ensures { λ r. ⌜ Passed (holds b (now (s .entry))) (now (s .entry)) r (length (now (s .entry))) ⌝ }
+{
+    let mut p = s.len();
+    while BLOCK <= p {
+        if block_holds(s, p - BLOCK, b) {
+            return p;
+        }
+        p -= BLOCK;
+    }
+    p
 }
 
 // The length of a line without its LF and one CR before it.

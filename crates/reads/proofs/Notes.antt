@@ -1,13 +1,13 @@
 -- An event into the table, and one behind another.
 -- Assumes nothing.
-use mathlib.Core.Path.{_≡_, refl, sym, ap, _∙_}
+use mathlib.Core.Path.{_≡_, refl, _∙_}
 use mathlib.Core.Bool.{Bool, true, false, cond}
 use mathlib.Core.List.{List, [], _∷_, _++_}
-use Prim.Native.Nat.{ℕ, zero, suc, _+_, _<_}
+use Prim.Native.Nat.{ℕ, zero, suc, _+_}
 use native.Mathlib.Omega.{arith}
 use Rattle.events.proofs.Laws.{further, pour-append}
 use Rattle.events.specs.Events.{ev, bodyStop}
-use Rattle.events.specs.Table.{free, counted, all, full, pour, Puts}
+use Rattle.events.specs.Table.{free, counted, pour, Puts}
 use Rattle.events.specs.declared.Encoding.{Encoding}
 use Rattle.events.specs.declared.Encoding.the-variants.{Unsaid}
 use Rattle.events.specs.declared.Event.{Event}

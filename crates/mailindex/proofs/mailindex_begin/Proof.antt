@@ -1,5 +1,5 @@
 -- `mailindex::mailindex_begin` meets its contract: a session of the entry that is chosen, or none. Assumes nothing.
-use mathlib.Core.Path.{_≡_, refl, sym, _∙_}
+use mathlib.Core.Path.{refl, sym, _∙_}
 use borrow.Author.Needs.{needs}
 use Rattle.mailindex.proofs.mailindex_begin.Statement.{statement}
 use Rattle.mailindex.proofs.mailindex_begin.Tie as tie

@@ -4,7 +4,6 @@ use Prim.Native.Nat.{_≤_}
 use native.Mathlib.Omega.{arith}
 use Rattle.mailindex.specs.Exports.{unset}
 use Rattle.mailindex.proofs.Held.{unset-step, unset-not, unset-none}
-use borrow.Author.Needs.{needs}
 use Rattle.mailindex.proofs.rest_unset.Statement.{statement}
 use Rattle.mailindex.proofs.rest_unset.Tie as tie
 

@@ -48,15 +48,15 @@ returns c =
     let none = c .before .before .before in
     let called = none .before .before in
     search-stays _ _ _ (start called .pre) (sym (none .enum-told .given .1) ∙ called .delimiter .ensures)
-    (c .before .last-end .ensures) (c .if1 .taken)
+    (c .before .behind-last .ensures) (c .if1 .taken)
 
 -- the lines that are lie in the window
 add-e : tie.Need-add-e
-add-e c = omega (arith, c .before .last-end .ensures .within)
+add-e c = omega (arith, c .before .behind-last .ensures .passed .on)
 
 -- the last of them ends there
 part-ends-with-end : tie.Need-part-ends-with-end
-part-ends-with-end c = omega (arith, c .before .last-end .ensures .within)
+part-ends-with-end c = omega (arith, c .before .behind-last .ensures .passed .on)
 
 -- behind the last of them
 returns-3 : tie.Need-returns-3
@@ -65,7 +65,7 @@ returns-3 c =
     let none = lines .before .before .before in
     let called = none .before .before in
     search-behind _ _ _ (start called .pre) (sym (none .enum-told .given .1) ∙ called .delimiter .ensures)
-    (lines .before .last-end .ensures) (lines .if1 .left) (c .ends-with .ensures)
+    (lines .before .behind-last .ensures) (lines .if1 .left) (c .ends-with .ensures)
 
 pub search-spec : {M : Type 1} → statement M
 search-spec =
