@@ -89,7 +89,7 @@ enum mailindex_result {
     MAILINDEX_TABLE_FULL = 10,   /* an event is due and no slot is free [that event's offset] */
     /* By windows only: */
     MAILINDEX_LONG_BOUNDARY = 12, /* a multipart's boundary of more than 70 bytes would open [after its blank line] */
-    MAILINDEX_NO_SESSION = 20     /* the record cannot be a session's: mailindex_begin and mailindex_show make none such; nothing was done [0] */
+    MAILINDEX_NO_SESSION = 20     /* the record cannot be a session's: mailindex_begin and mailindex_show make none such; no event was written [0] */
 };
 
 /* answer[0] is the result, answer[1] the place, answer[2] the number of events in the table.
