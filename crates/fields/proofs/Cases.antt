@@ -2,13 +2,17 @@
 -- Assumes nothing.
 use mathlib.Core.Path.{_≡_, refl}
 use mathlib.Core.Bool.{true, false}
-use mathlib.Core.List.{[], _∷_, _++_}
+use mathlib.Core.List.{List, [], _∷_, _++_}
+use Prim.Native.Nat.{ℕ, zero, suc, _≤_}
+use native.Mathlib.Omega.{arith}
+use lib.ListN.{replicate, length-replicate}
 use Rattle.classes.specs.Classes.{upperOf, isLetter, isUpper, isWhite, isBlank, isPopWhite, isDigit}
 use Rattle.reading.specs.Bytes.{startsWith, same, endsWith, raised, first, firstPlace, holds, stands, found, contains}
 use Rattle.reading.specs.Text.{text}
 use Rattle.fields.specs.Imap.{appendFollows, isAppend, dark, trimmed, braced, fromBrace, sizeOf, appendSize, holdsColon}
 use Rattle.fields.specs.Pop3.{stlsAnswer, octets, octetsFollow, numbered, retrAnswer}
 use Rattle.fields.specs.Runs.{runs, lead, last, lastPlace, through, worthBehind, worth}
+use Rattle.fields.proofs.Compared.{longer}
 
 -- ---- POP3
 
@@ -36,6 +40,35 @@ pub further-retrieves :
     ≡ true ∷ true ∷ false ∷ false ∷ false ∷ false ∷ false ∷ []
 unfolding retrAnswer numbered octets octetsFollow worth worthBehind lead runs isPopWhite isDigit startsWith
 further-retrieves = refl
+
+-- the number by itself: zeros, 1, the largest and the next, each with a zero in front, eleven digits. Nine bytes are too much if the first is worth 207
+pub numbers :
+    octets (text "0")
+    ∷ octets (text "00")
+    ∷ octets (text "1")
+    ∷ octets (text "4294967295")
+    ∷ octets (text "4294967296")
+    ∷ octets (text "04294967295")
+    ∷ octets (text "04294967296")
+    ∷ octets (text "10000000000")
+    ∷ octets (255 ∷ text "00000000")
+    ∷ []
+    ≡ true ∷ true ∷ true ∷ true ∷ false ∷ true ∷ false ∷ false ∷ false ∷ []
+unfolding octets worth worthBehind
+numbers = refl
+
+-- however many zeros stand in front; and nines, more than ten
+pub many-zeros : (n : ℕ) (l : List ℕ) → octets (replicate n 48 ++ l) ≡ octets l
+unfolding octets worth worthBehind
+many-zeros zero l = refl
+many-zeros (suc n) l = many-zeros n l
+
+pub many-nines : (n : ℕ) → 10 ≤ n → octets (replicate (suc n) 57) ≡ false
+unfolding octets worth worthBehind lead runs isDigit
+many-nines n h = longer (replicate (suc n) 57) (text "4294967295") (omega arith) refl (omega (arith, length-replicate {A = ℕ} n 57))
+
+pub millions : (octets (replicate 1000000 48 ++ text "1") ≡ octets (text "1")) × (octets (replicate 1000000 57) ≡ false)
+millions = (many-zeros 1000000 (text "1"), many-nines 999999 (omega arith))
 
 -- "tls" in any case, behind +OK
 pub tls-answers :

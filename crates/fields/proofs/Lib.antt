@@ -2,6 +2,7 @@ pub mod Led
 pub mod Behind
 pub mod Last
 pub mod Worth
+pub mod Compared
 pub mod Bdrys
 mod Cases
 mod HeaderCases

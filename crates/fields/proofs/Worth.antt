@@ -14,7 +14,7 @@ use Rattle.fields.specs.Runs.{worthBehind, worth, upTo}
 use Rattle.fields.specs.declared.runs.Number.the-variants.{Worth, TooBig}
 
 -- further digits never make it less
-worth-grows : (n : ℕ) (l : List ℕ) → n ≤ worthBehind n l
+pub worth-grows : (n : ℕ) (l : List ℕ) → n ≤ worthBehind n l
 unfolding worthBehind
 worth-grows n [] = omega arith
 worth-grows n (d ∷ l) = omega (arith, worth-grows (n * 10 + (d - 48)) l)
@@ -66,7 +66,7 @@ below-is n max =
     (λ f. le-ltb n (max + 1) (omega (arith, leb-false n max f)) ∙ sym f)
 
 module _ (max n : ℕ) where
-  pub worth-low : {m : ℕ} → upTo max n ≡ Worth m → leb n max ≡ true
+  worth-low : {m : ℕ} → upTo max n ≡ Worth m → leb n max ≡ true
   unfolding upTo
   worth-low e = worth-if (leb n max) n e .0
 
@@ -74,7 +74,7 @@ module _ (max n : ℕ) where
   unfolding upTo
   worth-is e = worth-if (leb n max) n e .1
 
-  pub too-big : upTo max n ≡ TooBig → leb n max ≡ false
+  too-big : upTo max n ≡ TooBig → leb n max ≡ false
   unfolding upTo
   too-big e = too-big-if (leb n max) n e
 

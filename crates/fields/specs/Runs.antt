@@ -3,8 +3,8 @@
 use mathlib.Core.Bool.{Bool, cond, not, _||_}
 use mathlib.Core.List.{List, [], _∷_}
 use Prim.Native.Nat.{ℕ, zero, suc, _+_, _*_, _-_}
-use lib.Dec.{eqb, leb}
-use lib.ListN.{length}
+use lib.Dec.{eqb, leb, ltb}
+use lib.ListN.{length, getD}
 use Rattle.classes.specs.Classes.{isWhite, isBlank, isPopWhite, isDigit}
 use Rattle.reading.specs.declared.Place.{Place}
 use Rattle.reading.specs.declared.Place.the-variants.{At, Nowhere}
@@ -49,6 +49,10 @@ worthBehind n (d ∷ l) = worthBehind (n * 10 + (d - 48)) l
 -- what digits are worth
 unfoldable pub worth : List ℕ → ℕ
 worth l = worthBehind 0 l
+
+-- what the digit is worth that k others follow; 0 where there is none
+unfoldable pub fromLast : ℕ → List ℕ → ℕ
+fromLast k l = cond (ltb k (length l)) (getD l (length l - (k + 1)) 0 - 48) 0
 
 -- a number, if it is at most max
 unfoldable pub upTo : ℕ → ℕ → Number
