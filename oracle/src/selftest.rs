@@ -1,5 +1,5 @@
-//! Document 01's "Sessions to check", and the findings of docs/DIFFERENCES.md, as cases with answers; W2's
-//! sessions by windows stand beside.
+//! Document 01's "Sessions to check", W4's numbers, and the findings of docs/DIFFERENCES.md, as cases with
+//! answers; W2's sessions by windows stand beside.
 
 use crate::case::{Answer, Case, ENOUGH, Sides, readable};
 use crate::differences;
@@ -104,8 +104,30 @@ fn all_documented() -> Vec<Documented> {
     all
 }
 
+/// Document 02, W4: numbers of octets with zeros in front, and one with more digits than the largest has.
+fn octet_numbers() -> Vec<Documented> {
+    vec![
+        retrieval("+OK 0 octets", true),
+        retrieval("+OK 00 octets", true),
+        retrieval("+OK 04294967295 octets", true),
+        retrieval("+OK 04294967296 octets", false),
+        retrieval("+OK 10000000000 octets", false),
+    ]
+}
+
+/// The same, too long for the stored list: a million zeros before the number, a million nines.
+fn million_digits() -> Vec<Documented> {
+    let zeros = "0".repeat(1_000_000);
+    let nines = "9".repeat(1_000_000);
+    vec![
+        retrieval(&format!("+OK {zeros}1 octets"), true),
+        retrieval(&format!("+OK {zeros}4294967296 octets"), false),
+        retrieval(&format!("+OK {nines} octets"), false),
+    ]
+}
+
 pub fn documented_cases() -> Vec<Case> {
-    all_documented().into_iter().map(|documented| documented.case).collect()
+    all_documented().into_iter().chain(octet_numbers()).map(|documented| documented.case).collect()
 }
 
 /// Input outside the claim, what document 01 says, and what the Rust does.
@@ -222,7 +244,7 @@ pub fn run() -> bool {
         failed: 0,
         run: 0,
     };
-    for documented in all_documented() {
+    for documented in all_documented().into_iter().chain(octet_numbers()).chain(million_digits()) {
         judges.ask(&documented.case, &documented.listing, &documented.listing);
     }
     for finding in findings() {
