@@ -1,5 +1,6 @@
--- Numbers in digits, compared without their worth: zeros in front are worth nothing, a longer number without them is larger, and two are compared digit by digit.
--- One of them is written in digits; of the other any bytes are, each for what it is worth. Assumes nothing.
+-- Numbers in digits, compared without being worked out: zeros in front are worth nothing, a longer number without them is larger, and two that end at the same
+-- place are compared digit by digit. One of the two is any that is written in digits; of the other any bytes are, each for what it is worth.
+-- Assumes nothing.
 use mathlib.Core.Path.{_≡_, refl, sym, ap, _∙_}
 use mathlib.Core.Bool.{true, false, cond, _&&_}
 use mathlib.Core.List.{List, [], _∷_, _++_}
@@ -54,7 +55,7 @@ digits-low [] e i = omega arith
 digits-low (b ∷ l) e zero = digits-on b (lead Digits l) (length l) (lead-within Digits l) e .0
 digits-low (b ∷ l) e (suc i) = digits-low l (digits-on b (lead Digits l) (length l) (lead-within Digits l) e .1) i
 
--- who is ahead by c stays so, if he has no fewer digits to come
+-- the law: what is ahead by c stays so, if it has no fewer digits to come
 stays-ahead : (c : ℕ) (l m : List ℕ) (x y : ℕ) → Low c l → length l ≤ length m → x + c ≤ y → worthBehind x l + c ≤ worthBehind y m
 unfolding worthBehind
 stays-ahead c [] m x y low g h = omega (arith, worth-grows y m)
@@ -108,7 +109,7 @@ worth-on k l =
     let h' : length l ≤ k + 1 = omega arith in
     rw (f, worth-none k l h, worth-none (k + 1) l h'))
 
--- all: who is ahead by c before the last k is so behind them
+-- all: what is ahead by c in front of the last k is so behind them
 behind-last : (c k : ℕ) (l m : List ℕ) → Low c l → k ≤ length m → worth (butLast k l) + c ≤ worth (butLast k m) → worth l + c ≤ worth m
 behind-last c k l m low g h =
     let fewer : length (lastOnes k l) ≤ length (lastOnes k m) = omega (arith, length-drop (length l - k) l, length-drop (length m - k) m) in
