@@ -3,7 +3,7 @@
 use mathlib.Core.List.{List, [], _∷_}
 use Prim.Native.Nat.{ℕ}
 use Rattle.events.specs.declared.Encoding.{Encoding}
-use Rattle.events.specs.declared.Encoding.the-variants.{Unsaid, Bit7, Bit8, Binary, QuotedPrintable, Base64}
+use Rattle.events.specs.declared.Encoding.the-variants.{Unsaid, Bit7, Bit8, Binary, QuotedPrintable, Base64, Unrecognised}
 use Rattle.events.specs.declared.Event.{Event}
 use Rattle.events.specs.declared.Outcome.{Outcome}
 use Rattle.events.specs.declared.Outcome.the-variants.{Done, Incomplete, TooLong, NoHello, StartTls, NoRecipient, BadDelimiter, SmallLiteral, OpenLiteral, TooDeep, TableFull}
@@ -57,6 +57,7 @@ encodingNumber Bit8 = 2
 encodingNumber Binary = 3
 encodingNumber QuotedPrintable = 4
 encodingNumber Base64 = 5
+encodingNumber Unrecognised = 6
 
 -- an event of a kind, at an offset, of so many bytes, with an encoding
 abbrev pub ev : ℕ → ℕ → ℕ → Encoding → Event

@@ -37,6 +37,7 @@ pub enum Encoding {
     Binary,
     QuotedPrintable,
     Base64,
+    Unrecognised,
 }
 
 pub struct Event {
@@ -104,6 +105,7 @@ pub fn encoding_number(e: Encoding) -> u32
         Encoding::Binary => 3,
         Encoding::QuotedPrintable => 4,
         Encoding::Base64 => 5,
+        Encoding::Unrecognised => 6,
     }
 }
 

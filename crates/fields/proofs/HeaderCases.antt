@@ -2,32 +2,39 @@
 -- Assumes nothing.
 use mathlib.Core.Path.{_≡_, refl}
 use mathlib.Core.Bool.{true, false}
-use mathlib.Core.List.{List, [], _∷_}
+use mathlib.Core.List.{List, [], _∷_, _++_}
 use mathlib.Core.Option.{none, some}
 use Prim.Native.Nat.{ℕ}
+use Prim.Native.String.{String}
 use Rattle.classes.specs.Classes.{upperOf, isLetter, isUpper}
-use Rattle.events.specs.declared.Encoding.the-variants.{Unsaid, Bit7, Bit8, QuotedPrintable, Base64}
+use Rattle.events.specs.declared.Encoding.the-variants.{Unsaid, Bit7, QuotedPrintable, Base64, Unrecognised}
 use Rattle.reading.specs.Text.{text}
 use Rattle.reading.specs.Bytes.{startsWith, same, endsWith, raised, first, firstPlace, holds, stands}
 use Rattle.fields.specs.Runs.{runs, lead}
 use Rattle.fields.specs.Common.{encodingNamed, behindSpaces, transferEncoding, closed, quoted, unquoted, typed, named, bareParameter, parameter, contentType}
-use Rattle.fields.specs.Common.{contentTypeExt, Known, unknown, firstEncoding, byType, byExt, byBoundary, scanned, dashBdry}
+use Rattle.fields.specs.Common.{contentTypeExt, unknown, firstEncoding, byType, byExt, byBoundary, scanned, dashBdry}
 use Rattle.fields.specs.Smtp.{startsWithHelo, isMailFrom, secondLine, isData, upToEnd, closing, mailFrom, required, rcptTo}
 use Rattle.fields.specs.declared.common.Bdry.the-variants.{Unsupplied, Of}
 use Rattle.fields.specs.declared.common.ContentType.the-variants.{Other, Plain, Bounded}
 use Rattle.fields.specs.declared.smtp.Second.the-variants as second
 use Rattle.fields.specs.declared.smtp.Address.the-variants.{Given, Missing}
+use Rattle.fields.proofs.Encodings.{after}
 
 pub encodings :
     transferEncoding (text "Content-Transfer-Encoding: base64\r\n")
     ∷ transferEncoding (text "content-transfer-encoding:QUOTED-Printable\r\n")
     ∷ transferEncoding (text "Content-Transfer-Encoding:   7bit\r\n")
+    ∷ transferEncoding (text "Content-Transfer-Encoding: x-uuencode\r\n")
+    ∷ transferEncoding (text "content-transfer-ENCODING: x\r\n")
+    ∷ transferEncoding (text "Content-Transfer-Encoding: 7bit\n")
     ∷ transferEncoding (text "Content-Transfer-Encoding:\t8bit\r\n")
-    ∷ transferEncoding (text "Content-Transfer-Encoding: 8bit\n")
     ∷ transferEncoding (text "Content-Transfer-Encoding: binary \r\n")
-    ∷ transferEncoding (text "Content-Transfer-Encoding : binary\r\n")
+    ∷ transferEncoding (text "Content-Transfer-Encoding:\r\n")
+    ∷ transferEncoding (text "Content-Transfer-Encoding : 7bit\r\n")
+    ∷ transferEncoding (text "Content-Transfer-Encoding 7bit\r\n")
+    ∷ transferEncoding (text " Content-Transfer-Encoding: 7bit\r\n")
     ∷ []
-    ≡ Base64 ∷ QuotedPrintable ∷ Bit7 ∷ Unsaid ∷ Unsaid ∷ Unsaid ∷ Unsaid ∷ []
+    ≡ Base64 ∷ QuotedPrintable ∷ Bit7 ∷ Unrecognised ∷ Unrecognised ∷ Unrecognised ∷ Unrecognised ∷ Unrecognised ∷ Unrecognised ∷ Unsaid ∷ Unsaid ∷ Unsaid ∷ []
 unfolding transferEncoding encodingNamed behindSpaces lead runs same startsWith raised upperOf isLetter isUpper
 encodings = refl
 
@@ -57,11 +64,6 @@ pub exts :
 unfolding contentTypeExt quoted closed unquoted first firstPlace holds startsWith lead runs
 exts = refl
 
--- what is known after some lines
-unfoldable pub after : Known → List (List ℕ) → Known
-after k [] = k
-after k (l ∷ ls) = after (scanned k l) ls
-
 pub scans :
     after unknown (text "Content-Type: a;\r\n" ∷ text "X: y\r\n" ∷ text "\tboundary=q\r\n" ∷ text "\tboundary=r\r\n" ∷ []) .boundary
     ∷ after unknown (text "\tboundary=q\r\n" ∷ []) .boundary
@@ -74,8 +76,18 @@ unfolding after scanned firstEncoding byBoundary byExt byType transferEncoding c
     first firstPlace holds stands startsWith lead runs raised upperOf isLetter isUpper
 scans = refl
 
+abbrev field : String → List ℕ
+field value = text "Content-Transfer-Encoding:" ++ text value
+
+-- a valid line wins, before or behind one that is not recognised, and the first of two; without one it is not recognised, also where it is folded
 pub first-encoding-wins :
-    after unknown (text "Content-Transfer-Encoding: x\r\n" ∷ text "Content-Transfer-Encoding: 8bit\r\n" ∷ text "Content-Transfer-Encoding: 7bit\r\n" ∷ []) .encoding ≡ Bit8
+    after unknown (field " x\r\n" ∷ field " base64\r\n" ∷ field " 7bit\r\n" ∷ []) .encoding
+    ∷ after unknown (field " base64\r\n" ∷ field " x\r\n" ∷ []) .encoding
+    ∷ after unknown (field " x\r\n" ∷ text "To: d\r\n" ∷ field "\r\n" ∷ []) .encoding
+    ∷ after unknown (field "\r\n" ∷ text " 7bit\r\n" ∷ []) .encoding
+    ∷ after unknown (text "To: d\r\n" ∷ []) .encoding
+    ∷ []
+    ≡ Base64 ∷ Base64 ∷ Unrecognised ∷ Unrecognised ∷ Unsaid ∷ []
 unfolding after scanned firstEncoding byBoundary byType transferEncoding encodingNamed behindSpaces contentType same startsWith lead runs raised upperOf isLetter isUpper
 first-encoding-wins = refl
 

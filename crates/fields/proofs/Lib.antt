@@ -4,5 +4,6 @@ pub mod Last
 pub mod Worth
 pub mod Compared
 pub mod Bdrys
+pub mod Encodings
 mod Cases
 mod HeaderCases

@@ -1,15 +1,14 @@
--- What a header line says: document 01, 'Mail'. Ports the field tests of common.rs.
+-- What a header line says: document 01, 'Mail', and document 02, W1. Ports the field tests of common.rs.
 -- Assumes nothing.
 use mathlib.Core.Path.{_≡_}
 use mathlib.Core.Bool.{Bool, true, false, cond, _&&_}
 use mathlib.Core.List.{List, _++_}
 use mathlib.Core.Option.{Option, none, some}
 use Prim.Native.Nat.{ℕ, _+_, _-_, _≤_}
-use lib.Dec.{eqb}
+use lib.Dec.{ltb}
 use lib.ListN.{length, take, drop}
-use Rattle.events.specs.Events.{encodingNumber}
 use Rattle.events.specs.declared.Encoding.{Encoding}
-use Rattle.events.specs.declared.Encoding.the-variants.{Unsaid, Bit7, Bit8, Binary, QuotedPrintable, Base64}
+use Rattle.events.specs.declared.Encoding.the-variants.{Unsaid, Bit7, Bit8, Binary, QuotedPrintable, Base64, Unrecognised}
 use Rattle.reading.specs.Bytes.{startsWith, same, endsWith, raised, firstPlace, holds, stands}
 use Rattle.reading.specs.Reading.{crlf, dash}
 use Rattle.reading.specs.Text.{text}
@@ -28,7 +27,7 @@ use Rattle.fields.specs.declared.runs.Run.the-variants.{Spaces, Bare}
 abbrev pub encodingField : List ℕ
 encodingField = text "Content-Transfer-Encoding:"
 
--- one of the five names (any case), CRLF
+-- one of the five names (any case), CRLF; W1: what is not valid is not recognised
 unfoldable pub encodingNamed : List ℕ → Encoding
 encodingNamed l =
     cond (same (raised (text "7bit\r\n")) (raised l)) Bit7
@@ -36,7 +35,7 @@ encodingNamed l =
     (cond (same (raised (text "binary\r\n")) (raised l)) Binary
     (cond (same (raised (text "quoted-printable\r\n")) (raised l)) QuotedPrintable
     (cond (same (raised (text "base64\r\n")) (raised l)) Base64
-    Unsaid))))
+    Unrecognised))))
 
 -- Content-Transfer-Encoding: (any case), spaces or none, the encoding
 unfoldable pub behindSpaces : List ℕ → List ℕ
@@ -112,9 +111,19 @@ pub record Known : Type 0 where
 abbrev pub unknown : Known
 unknown = record { encoding = Unsaid; typeSeen = false; boundary = none }
 
--- the first valid encoding counts
+-- W1: a valid one counts for more than one that is not recognised, and that for more than none
+abbrev pub rank : Encoding → ℕ
+rank Unsaid = 0
+rank Bit7 = 2
+rank Bit8 = 2
+rank Binary = 2
+rank QuotedPrintable = 2
+rank Base64 = 2
+rank Unrecognised = 1
+
+-- the first valid encoding counts; without one, that a line was not recognised
 unfoldable pub firstEncoding : Encoding → List ℕ → Encoding
-firstEncoding e l = cond (eqb (encodingNumber e) 0) (transferEncoding l) e
+firstEncoding e l = cond (ltb (rank e) (rank (transferEncoding l))) (transferEncoding l) e
 
 -- the bytes of a boundary in its line
 abbrev pub bytesOf : List ℕ → ℕ → ℕ → List ℕ

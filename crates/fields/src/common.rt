@@ -4,7 +4,7 @@ ghost use Prim.Native.Nat.{_≤_};
 ghost use mathlib.Core.Option.{none};
 ghost use lib.ListN.{length};
 ghost use Rattle.fields.specs.Common.{transferEncoding, encodingNamed, contentType, bareParameter, named, typeField, bareName, typed, contentTypeExt, quoted, unquoted};
-ghost use Rattle.fields.specs.Common.{dashBdry, firstEncoding, byType, byBoundary, scanned, knownOf, part, Says, Inside};
+ghost use Rattle.fields.specs.Common.{dashBdry, rank, firstEncoding, byType, byBoundary, scanned, knownOf, part, Says, Inside};
 use crate::runs::Run;
 use crate::runs::leading;
 use events::Encoding;
@@ -103,17 +103,31 @@ fn by_type(h: &[u8], at: usize, end: usize, encoding: Encoding, seen: bool) -> S
     }
 }
 
-// The first valid encoding counts.
+// The first valid encoding counts; without one, that a line was not recognised. Behind a valid one no line is looked at.
 pub fn first_encoding(e: Encoding, l: &[u8]) -> Encoding
     ensures { λ r. ⌜ r ≡ firstEncoding e (now (l .entry)) ⌝ }
 {
+    if 1 < rank(e) {
+        return e;
+    }
+    let said = transfer_encoding(l);
+    if 0 < rank(said) {
+        return said;
+    }
+    e
+}
+
+fn rank(e: Encoding) -> u32
+    ensures { λ r. ⌜ r ≡ rank e ⌝ }
+{
     match e {
-        Encoding::Unsaid => transfer_encoding(l),
-        Encoding::Bit7 => Encoding::Bit7,
-        Encoding::Bit8 => Encoding::Bit8,
-        Encoding::Binary => Encoding::Binary,
-        Encoding::QuotedPrintable => Encoding::QuotedPrintable,
-        Encoding::Base64 => Encoding::Base64,
+        Encoding::Unsaid => 0,
+        Encoding::Bit7 => 2,
+        Encoding::Bit8 => 2,
+        Encoding::Binary => 2,
+        Encoding::QuotedPrintable => 2,
+        Encoding::Base64 => 2,
+        Encoding::Unrecognised => 1,
     }
 }
 
@@ -127,7 +141,7 @@ pub fn transfer_encoding(l: &[u8]) -> Encoding
     encoding_named(&l[name..])
 }
 
-// One of the five names and CRLF.
+// One of the five names and CRLF, or not recognised.
 fn encoding_named(l: &[u8]) -> Encoding
     ensures { λ r. ⌜ r ≡ encodingNamed (now (l .entry)) ⌝ }
 {
@@ -146,7 +160,7 @@ fn encoding_named(l: &[u8]) -> Encoding
     if reading::equals_any_case(l, b"base64\r\n") {
         return Encoding::Base64;
     }
-    Encoding::Unsaid
+    Encoding::Unrecognised
 }
 
 pub fn content_type(l: &[u8]) -> ContentType

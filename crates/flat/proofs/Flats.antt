@@ -5,7 +5,7 @@ use mathlib.Core.Bool.{Bool, true, false}
 use Prim.Native.Nat.{ℕ}
 use Rattle.events.specs.Events.{encodingNumber, resultNumber}
 use Rattle.events.specs.declared.Encoding.{Encoding}
-use Rattle.events.specs.declared.Encoding.the-variants.{Unsaid, Bit7, Bit8, Binary, QuotedPrintable, Base64}
+use Rattle.events.specs.declared.Encoding.the-variants.{Unsaid, Bit7, Bit8, Binary, QuotedPrintable, Base64, Unrecognised}
 use Rattle.events.specs.declared.Log.{Log}
 use Rattle.events.specs.declared.Outcome.{Outcome}
 use Rattle.events.specs.declared.Outcome.the-variants as result
@@ -28,6 +28,7 @@ encoding-again Bit8 = refl
 encoding-again Binary = refl
 encoding-again QuotedPrintable = refl
 encoding-again Base64 = refl
+encoding-again Unrecognised = refl
 
 outcome-again : (r : Outcome) → outcomeOf (resultNumber r) ≡ r
 unfolding outcomeOf

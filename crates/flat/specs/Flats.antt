@@ -7,7 +7,7 @@ use lib.Dec.{eqb}
 use lib.ListN.{getD, replicate}
 use Rattle.events.specs.Events.{encodingNumber, resultNumber}
 use Rattle.events.specs.declared.Encoding.{Encoding}
-use Rattle.events.specs.declared.Encoding.the-variants.{Unsaid, Bit7, Bit8, Binary, QuotedPrintable, Base64}
+use Rattle.events.specs.declared.Encoding.the-variants.{Unsaid, Bit7, Bit8, Binary, QuotedPrintable, Base64, Unrecognised}
 use Rattle.events.specs.declared.Log.{Log}
 use Rattle.events.specs.declared.Outcome.{Outcome}
 use Rattle.events.specs.declared.Outcome.the-variants as result
@@ -86,7 +86,8 @@ encodingOf n =
     (cond (eqb n 3) Binary
     (cond (eqb n 4) QuotedPrintable
     (cond (eqb n 5) Base64
-    Unsaid))))
+    (cond (eqb n 6) Unrecognised
+    Unsaid)))))
 
 unfoldable pub outcomeOf : ℕ → Outcome
 outcomeOf n =

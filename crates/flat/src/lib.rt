@@ -265,6 +265,7 @@ fn encoding_of(n: u64) -> Encoding
         3 => Encoding::Binary,
         4 => Encoding::QuotedPrintable,
         5 => Encoding::Base64,
+        6 => Encoding::Unrecognised,
         _ => Encoding::Unsaid,
     }
 }

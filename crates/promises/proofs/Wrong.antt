@@ -11,7 +11,7 @@ use Rattle.direction.specs.Direction.{side, guessNumber, guess, confirm}
 use Rattle.direction.specs.declared.Guess.the-variants.{Swapped}
 use Rattle.events.specs.Events.{ev, numbers, resultNumber, encodingNumber, sizedBody}
 use Rattle.events.specs.Table.{Final, noEvents, store, pour, finish, tableOf}
-use Rattle.events.specs.declared.Encoding.the-variants.{Base64}
+use Rattle.events.specs.declared.Encoding.the-variants.{Unsaid, Base64}
 use Rattle.events.specs.declared.Outcome.the-variants.{TooDeep}
 use Rattle.fields.specs.Common.{encodingNamed, behindSpaces, transferEncoding, closed, quoted, unquoted, typed, named, bareParameter, parameter, contentType, contentTypeExt}
 use Rattle.fields.specs.Common.{firstEncoding, byType, byExt, byBoundary, scanned, unknown, dashBdry}
@@ -102,6 +102,12 @@ abbrev known : Option (List ℕ) → List ℕ
 known (some b) = b
 known none = []
 
+abbrev uuencoded : List ℕ
+uuencoded = text "Content-Transfer-Encoding: x-uuencode\r\n"
+
+abbrev sevenBit : List ℕ
+sevenBit = text "Content-Transfer-Encoding: 7bit\r\n"
+
 abbrev leaves : List Row
 leaves =
     -- upper: as it was; moved though it is no letter
@@ -126,6 +132,9 @@ leaves =
     (guessNumber (guess 1 (side 25 false []) (side 9 false [])) ∷ [] is-neither 0 ∷ [] nor 2 ∷ []) ∷
     -- transfer_encoding: of this case only; another one
     (encodingNumber (transferEncoding (text "content-transfer-encoding:BASE64\r\n")) ∷ [] is-neither 0 ∷ [] nor 4 ∷ []) ∷
+    -- first_encoding: what is not recognised counts as none; it stays before a valid one
+    (encodingNumber (firstEncoding Unsaid uuencoded) ∷ encodingNumber (firstEncoding (transferEncoding uuencoded) sevenBit) ∷ []
+    is-neither 0 ∷ 1 ∷ [] nor 6 ∷ 6 ∷ []) ∷
     -- content_type: with its quotes; no boundary
     (type (contentType (text "Content-Type: boundary=\"q\"\r\n")) is-neither 2 ∷ 23 ∷ 3 ∷ [] nor 1 ∷ []) ∷
     -- content_type_ext: the LF left out; nothing
@@ -178,7 +187,7 @@ dissectors =
     (outcome (imapClient (replicate 4 99) (text "a\nb")) is-neither 0 ∷ 2 ∷ 1 ∷ 7 ∷ 0 ∷ 1 ∷ 0 ∷ [] nor 1 ∷ 2 ∷ 1 ∷ replicate 4 99) ∷
     []
 
-pub wrong-answers : map met (leaves ++ dissectors) ≡ replicate 27 false
+pub wrong-answers : map met (leaves ++ dissectors) ≡ replicate 28 false
 unfolding answer settle resultOf placeOf react reacts need wants runs-on go turn fetch parted reach past first firstPlace holds stands found contains
     delimits mayStand startsWith same endsWith raised clean dropEnd upperOf isLetter isUpper isWhite isBlank isPopWhite isDigit store pour finish
     lead runs last lastPlace through worth worthBehind upTo transferEncoding encodingNamed behindSpaces closed quoted unquoted typed named bareParameter

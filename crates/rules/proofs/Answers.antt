@@ -158,6 +158,34 @@ mails =
     ((7, 0, 13, 0) ∷ (7, 15, 1, 0) ∷ (7, 18, 13, 0) ∷ (1, 33, 32, 0) ∷ (1, 65, 2, 0) ∷ (2, 67, 0, 0) ∷ (4, 67, 1, 1) ∷ (6, 68, 0, 0) ∷ (7, 70, 1, 0) ∷ []) 1 72 ∷
     []
 
+-- a POP3 mail of one line: its header's lines, how they are listed, and the encoding of its body
+abbrev encoded : List ℕ → List Listed → ℕ → Case
+encoded h ls e =
+    let n = 14 + length h in
+    on Pop3Server (text "+OK 1 octets\r\n" ++ (h ++ text "\r\nx\r\n.\r\n"))
+    ((8, 0, 12, 0) ∷ (ls ++ ((1, n, 2, 0) ∷ (2, n + 2, 0, 0) ∷ (3, n + 2, 3, e) ∷ (6, n + 5, 0, 0) ∷ []))) 1 (n + 8)
+
+-- an encoding that is said and not recognised; which of two counts; what opens otherwise
+abbrev encodings : List Case
+encodings =
+    encoded (text "Content-Transfer-Encoding: x-uuencode\r\n") ((1, 14, 39, 0) ∷ []) 6 ∷
+    encoded (text "Content-Transfer-Encoding: 7bit\n") ((1, 14, 32, 0) ∷ []) 6 ∷
+    encoded (text "Content-Transfer-Encoding:\t7bit\r\n") ((1, 14, 33, 0) ∷ []) 6 ∷
+    encoded (text "Content-Transfer-Encoding: 7bit \r\n") ((1, 14, 34, 0) ∷ []) 6 ∷
+    encoded (text "Content-Transfer-Encoding:\r\n") ((1, 14, 28, 0) ∷ []) 6 ∷
+    encoded (text "Content-Transfer-Encoding:\r\n 7bit\r\n") ((1, 14, 28, 0) ∷ (1, 42, 7, 0) ∷ []) 6 ∷
+    encoded (text "Content-Transfer-Encoding: x-uuencode\r\nContent-Transfer-Encoding: base64\r\n") ((1, 14, 39, 0) ∷ (1, 53, 35, 0) ∷ []) 5 ∷
+    encoded (text "Content-Transfer-Encoding: base64\r\nContent-Transfer-Encoding: x-uuencode\r\n") ((1, 14, 35, 0) ∷ (1, 49, 39, 0) ∷ []) 5 ∷
+    encoded (text "Content-Transfer-Encoding : 7bit\r\n") ((1, 14, 34, 0) ∷ []) 0 ∷
+    -- a literal
+    on ImapClient (text "a APPEND {33}\r\nContent-Transfer-Encoding: x\r\n\r\ny\r\n")
+    ((7, 0, 13, 0) ∷ (1, 15, 30, 0) ∷ (1, 45, 2, 0) ∷ (2, 47, 0, 0) ∷ (4, 47, 1, 6) ∷ (6, 48, 0, 0) ∷ []) 1 50 ∷
+    -- a part goes by its own header
+    on Pop3Server (text "+OK 1 octets\r\nContent-Type: boundary=q\r\nContent-Transfer-Encoding: base64\r\n\r\n"
+    ++ text "--q\r\nContent-Transfer-Encoding: x-uuencode\r\n\r\nx\r\n--q")
+    ((8, 0, 12, 0) ∷ (1, 14, 26, 0) ∷ (1, 40, 35, 0) ∷ (1, 75, 2, 0) ∷ (1, 82, 39, 0) ∷ (1, 121, 2, 0) ∷ (2, 123, 0, 0) ∷ (5, 123, 1, 6) ∷ (6, 124, 0, 0) ∷ []) 1 129 ∷
+    []
+
 abbrev eight : List ℕ → List ℕ
 eight s = text "+OK 1 octets\r\n" ++ (opens "1" ++ (opens "2" ++ (opens "3" ++ (opens "4" ++ (opens "5" ++ (opens "6" ++ (opens "7" ++ (opens "8" ++ s))))))))
 
@@ -210,7 +238,7 @@ rests =
     []
 
 abbrev further : List Case
-further = envelopes ++ mails ++ multiparts ++ rests
+further = envelopes ++ mails ++ encodings ++ multiparts ++ rests
 
 -- every case's answer is the wanted one
 abbrev Holds : List Case → Type 0

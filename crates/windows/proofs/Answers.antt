@@ -106,6 +106,13 @@ sessions =
     on 12 ImapClient (text "a APPEND {9}\r\nb" ∷ text "c\r\nd: e\r\n" ∷ [])
     ((14, 1, 14, 1) ∷ (10, 1, 24, 3) ∷ [])
     ((7, 0, 12, 0) ∷ (7, 14, 2, 0) ∷ (7, 18, 4, 0) ∷ []) ∷
+    -- an encoding that is not recognised is known in later windows; a valid one in a later window wins
+    on 8 Pop3Server (text "+OK 1 octets\r\nContent-Transfer-Encoding: x-uu" ∷ text "encode\r\nTo: d\r" ∷ text "\n\r\nx\r\n" ∷ text ".\r\n" ∷ [])
+    ((14, 1, 14, 1) ∷ (39, 1, 53, 2) ∷ (12, 1, 65, 6) ∷ (3, 1, 68, 7) ∷ [])
+    ((8, 0, 12, 0) ∷ (1, 14, 39, 0) ∷ (1, 53, 7, 0) ∷ (1, 60, 2, 0) ∷ (2, 62, 0, 0) ∷ (3, 62, 3, 6) ∷ (6, 65, 0, 0) ∷ []) ∷
+    on 8 Pop3Server (text "+OK 1 octets\r\nContent-Transfer-Encoding:\r\n" ∷ text "Content-Transfer-Encoding: base64\r\n\r\nx\r\n" ∷ [])
+    ((42, 1, 42, 2) ∷ (40, 1, 82, 6) ∷ [])
+    ((8, 0, 12, 0) ∷ (1, 14, 28, 0) ∷ (1, 42, 35, 0) ∷ (1, 77, 2, 0) ∷ (2, 79, 0, 0) ∷ (3, 79, 3, 5) ∷ []) ∷
     -- the table is full: 10, and nothing is taken
     on 1 SmtpServer (text "220 a\r\n220 b\r\n" ∷ text "220 c\r\n" ∷ [])
     ((0, 10, 7, 1) ∷ (0, 10, 7, 1) ∷ [])
@@ -160,7 +167,7 @@ unfolding trace shows taken window refused lands landed keeps over said enter en
     appendSize holdsColon afterMail literalBody rest plainMail boundaryFree begun onHead onText onLiteral onPreamble onOpened held whole contentLength
     onContent outermost byRest skip onBetween lastLine popped onSkipping onResting onHello given bySecond onSecond onUser onPassword onSender onSeeking
     byRecipient onRecipient onReply onStatus onCommand onOffered onClosing
-both = ((refl, (refl, (refl, (refl, (refl, (refl, (refl, (refl, (refl, tt))))))))), (refl, (refl, (refl, (refl, tt)))))
+both = ((refl, (refl, (refl, (refl, (refl, (refl, (refl, (refl, (refl, (refl, (refl, tt))))))))))), (refl, (refl, (refl, (refl, tt)))))
 
 pub computed : Holds sessions
 computed = both .0

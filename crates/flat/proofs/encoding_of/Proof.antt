@@ -29,17 +29,23 @@ returns-5 : tie.Need-returns-5
 unfolding encodingOf
 returns-5 c = rw (c .match .keys5)
 
--- none was said
+-- not recognised
 returns-6 : tie.Need-returns-6
 unfolding encodingOf
-returns-6 c =
+returns-6 c = rw (c .match .keys6)
+
+-- none was said
+returns-7 : tie.Need-returns-7
+unfolding encodingOf
+returns-7 c =
     let none = c .match .rest in
     rw (
-      ne-eqb _ 1 (none .0 .0 .0 .0 .1),
-      ne-eqb _ 2 (none .0 .0 .0 .1),
-      ne-eqb _ 3 (none .0 .0 .1),
-      ne-eqb _ 4 (none .0 .1),
-      ne-eqb _ 5 (none .1),
+      ne-eqb _ 1 (none .0 .0 .0 .0 .0 .1),
+      ne-eqb _ 2 (none .0 .0 .0 .0 .1),
+      ne-eqb _ 3 (none .0 .0 .0 .1),
+      ne-eqb _ 4 (none .0 .0 .1),
+      ne-eqb _ 5 (none .0 .1),
+      ne-eqb _ 6 (none .1),
     )
 
 pub encoding-of-spec : {M : Type 1} → statement M
@@ -51,4 +57,5 @@ encoding-of-spec =
     returns-3
     returns-4
     returns-5
-    returns-6)
+    returns-6
+    returns-7)

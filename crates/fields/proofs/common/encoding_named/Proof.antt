@@ -1,21 +1,14 @@
 -- `fields::common::encoding_named` meets its contract, name by name. Assumes nothing.
 use mathlib.Core.Path.{_≡_, sym, _∙_}
-use mathlib.Core.Bool.{Bool, false, cond}
-use mathlib.Core.List.{List}
-use Prim.Native.Nat.{ℕ}
-use Prim.Native.String.{String}
+use mathlib.Core.Bool.{false, cond}
 use borrow.Author.Needs.{needs}
-use Rattle.events.specs.declared.Encoding.the-variants.{Unsaid, Base64}
-use Rattle.reading.specs.Bytes.{same, raised}
-use Rattle.reading.specs.Text.{text}
+use Rattle.events.specs.declared.Encoding.the-variants.{Base64, Unrecognised}
 use Rattle.fields.specs.Common.{encodingNamed}
+use Rattle.fields.proofs.Encodings.{names}
 use Rattle.fields.proofs.common.encoding_named.Statement.{statement}
 use Rattle.fields.proofs.common.encoding_named.Tie as tie
 
 -- ---- behind each test that failed: the line is not that name
-abbrev names : String → List ℕ → Bool
-names n l = same (raised (text n)) (raised l)
-
 abbrev start : tie.Else1 → tie.Start
 start c = c .before .before .before .before
 
@@ -40,10 +33,10 @@ not-binary c = sym (c .before .equals-any-case3 .ensures) ∙ c .if3 .left
 not-quoted-printable : (c : tie.Else4) → names "quoted-printable\r\n" (start (no1 (no2 (no3 c))) .args .l .now) ≡ false
 not-quoted-printable c = sym (c .before .equals-any-case4 .ensures) ∙ c .if4 .left
 
--- behind the first four: base64 or none
+-- behind the first four: base64, or not recognised
 last-decides : (c : tie.Else4) →
     let l = start (no1 (no2 (no3 c))) .args .l .now in
-    encodingNamed l ≡ cond (names "base64\r\n" l) Base64 Unsaid
+    encodingNamed l ≡ cond (names "base64\r\n" l) Base64 Unrecognised
 unfolding encodingNamed
 last-decides c =
     let past3 = no3 c in

@@ -1,49 +1,45 @@
--- `fields::common::first_encoding` meets its contract, encoding by encoding. Assumes nothing.
+-- `fields::common::first_encoding` meets its contract: a valid encoding stays, else what the line says counts. Assumes nothing.
+use mathlib.Core.Path.{_≡_, sym, ap, _∙_}
+use Prim.Native.Nat.{_≤_}
+use native.Mathlib.Omega.{arith}
 use borrow.Author.Needs.{needs}
-use Rattle.fields.specs.Common.{firstEncoding}
+use Rattle.fields.specs.Common.{transferEncoding, rank}
+use Rattle.fields.proofs.Encodings.{stays, keeps, counts}
 use Rattle.fields.proofs.common.first_encoding.Statement.{statement}
 use Rattle.fields.proofs.common.first_encoding.Tie as tie
 
--- ---- none was said: the line's counts
+abbrev start : tie.Else1 → tie.Start
+start c = c .before .before .before
+
+-- behind the first test: what is known is not valid
+not-valid : (c : tie.Else1) → rank (start c .args .e) ≤ 1
+not-valid c = omega (arith, c .if1 .left, c .before .rank .ensures)
+
+-- behind the second: the line's rank
+line-ranks : (c : tie.After-rank2) → c .rank2 .result ≡ rank (transferEncoding (start (c .before .before) .args .l .now))
+line-ranks c = c .rank2 .ensures ∙ ap rank (c .before .transfer-encoding .ensures)
+
+-- a valid one
 returns : tie.Need-returns
-unfolding firstEncoding
-returns c = rw (c .before .enum-told .given .1) (c .transfer-encoding .ensures)
+returns c = sym (stays _ _ (omega (arith, c .if1 .taken, c .before .rank .ensures)))
 
--- ---- one was said, and stays: Bit7, Bit8, Binary, QuotedPrintable, Base64
+-- the line's
 returns-2 : tie.Need-returns-2
-unfolding firstEncoding
-returns-2 c = rw (c .enum-told2 .given .1)
+returns-2 c =
+    let called = c .before .before in
+    called .transfer-encoding .ensures ∙ sym (counts _ _ (not-valid (called .before)) (omega (arith, c .if2 .taken, line-ranks (c .before))))
 
+-- the line says nothing
 returns-3 : tie.Need-returns-3
-unfolding firstEncoding
-returns-3 c = rw (c .enum-told3 .given .1)
-
-returns-4 : tie.Need-returns-4
-unfolding firstEncoding
-returns-4 c = rw (c .enum-told4 .given .1)
-
-returns-5 : tie.Need-returns-5
-unfolding firstEncoding
-returns-5 c = rw (c .enum-told5 .given .1)
-
-returns-6 : tie.Need-returns-6
-unfolding firstEncoding
-returns-6 c = rw (c .enum-told6 .given .1)
+returns-3 c = sym (keeps _ _ (omega (arith, c .if2 .left, line-ranks (c .before))))
 
 pub first-encoding-spec : {M : Type 1} → statement M
 first-encoding-spec =
     tie.close
     (tie.spec
-    (λ c. search needs)
     (λ c _. search needs)
-    (λ c. search needs)
-    (λ c. search needs)
-    (λ c. search needs)
-    (λ c. search needs)
-    (λ c. search needs)
     returns
+    (λ c _. search needs)
+    (λ c _. search needs)
     returns-2
-    returns-3
-    returns-4
-    returns-5
-    returns-6)
+    returns-3)
