@@ -1,5 +1,6 @@
 //! A case (an entry, slots, bytes), its answer, and both as bytes in a file.
 
+use crate::fields::UNRECOGNISED;
 use std::fmt::{self, Write};
 
 pub type Event = [u32; 4];
@@ -20,6 +21,23 @@ pub enum Answer {
     Direction(u32),
     /// The Rust panicked, or would have made a `str` of bytes that are no UTF-8.
     Unjudged(String),
+}
+
+impl Listing {
+    /// As the Rust says it: an encoding that is not recognised is none there.
+    pub fn as_rust(mut self) -> Listing {
+        self.events.iter_mut().filter(|event| event[3] == UNRECOGNISED).for_each(|event| event[3] = 0);
+        self
+    }
+}
+
+impl Answer {
+    pub fn as_rust(self) -> Answer {
+        match self {
+            Answer::Session(listing) => Answer::Session(listing.as_rust()),
+            other => other,
+        }
+    }
 }
 
 impl fmt::Display for Answer {

@@ -3,8 +3,10 @@
 use crate::case::{Answer, Case, Event, Listing};
 use crate::generate::Generator;
 use crate::judge::SwiftJudge;
+use crate::reading;
 use crate::selftest;
 use crate::sharp;
+use crate::wrong::Wrong;
 use std::collections::HashMap;
 
 /// How many chosen cases tell each wrong reading, and how many show each other feature.
@@ -17,9 +19,10 @@ type Feature = [u32; 5];
 const TOLD: u32 = 0;
 
 fn features(judge: &SwiftJudge, case: &Case) -> Vec<Feature> {
-    let (answer, phase) = match case.entry {
-        b'D' => (judge.answer(case), [0; 4]),
-        entry => judge.session(entry, &case.bytes, case.slots(), Vec::new()),
+    let answer = reading::answer(case, Wrong::Nothing);
+    let phase = match case.entry {
+        b'D' => [0; 4],
+        entry => judge.session(entry, &case.bytes, case.slots(), Vec::new()).1,
     };
     let mut all: Vec<Feature> = sharp::told(case, &answer).map(|at| [TOLD, at as u32, 0, 0, 0]).collect();
     match &answer {

@@ -1,4 +1,4 @@
-//! Both forms of the oracle against the second reading, over generated cases.
+//! Both forms of the oracle against the second reading, over generated cases. An encoding 6 compares as the Rust's none.
 
 use crate::case::{Answer, Case, Sides, readable};
 use crate::judge::{NO_TEXT, PlainJudge, SwiftJudge};
@@ -23,12 +23,11 @@ impl Both {
         if rust != plain {
             return Some("the two forms of the stream part".to_string());
         }
-        let document = reading::answer(case, Wrong::Nothing);
-        match (&rust, &document) {
-            _ if rust == document => None,
-            (Answer::Unjudged(why), _) if why == NO_TEXT => None,
-            (Answer::Unjudged(why), _) => Some(why.clone()),
-            _ if rust == reading::answer(case, Wrong::WideWhite) => Some("white space above 127".to_string()),
+        match &rust {
+            _ if rust == reading::answer(case, Wrong::Nothing).as_rust() => None,
+            Answer::Unjudged(why) if why == NO_TEXT => None,
+            Answer::Unjudged(why) => Some(why.clone()),
+            _ if rust == reading::answer(case, Wrong::WideWhite).as_rust() => Some("white space above 127".to_string()),
             _ => Some("another answer".to_string()),
         }
     }

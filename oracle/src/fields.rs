@@ -212,18 +212,50 @@ pub fn literal_size(line: &[u8], wrong: Wrong) -> u64 {
     worth(&text[..digits], most).map_or(0, |size| size as u64)
 }
 
+const ENCODING_FIELD: &[u8] = b"Content-Transfer-Encoding:";
 const ENCODINGS: [&[u8]; 5] = [b"7bit", b"8bit", b"binary", b"quoted-printable", b"base64"];
 
-/// The encoding's number if the line is a valid encoding field.
-pub fn encoding(line: &[u8], wrong: Wrong) -> Option<u32> {
-    let field = b"Content-Transfer-Encoding:";
-    if !begins(line, field, wrong != Wrong::EncodingFieldCase) {
-        return None;
+/// Document 02, W1: a line that opens with the encoding field's name and is no valid encoding field.
+pub const UNRECOGNISED: u32 = 6;
+
+/// What the encoding is behind this line: the first valid one counts, and without one 6 if a line said it.
+pub fn encoding(known: u32, line: &[u8], wrong: Wrong) -> u32 {
+    let said = match said_encoding(line, wrong) {
+        UNRECOGNISED if silent(line, wrong) => 0,
+        said => said,
+    };
+    let stays = match known {
+        0 => false,
+        UNRECOGNISED => wrong == Wrong::UnrecognisedStays,
+        _ if said == UNRECOGNISED => wrong != Wrong::UnrecognisedWins,
+        _ => wrong != Wrong::EncodingLast,
+    };
+    if stays || said == 0 { known } else { said }
+}
+
+/// Lines that do not say 6 in a wrong reading.
+fn silent(line: &[u8], wrong: Wrong) -> bool {
+    match wrong {
+        Wrong::UnrecognisedNone => true,
+        Wrong::UnrecognisedFieldCase => !line.starts_with(ENCODING_FIELD),
+        Wrong::UnrecognisedEmpty => line[ENCODING_FIELD.len()..].iter().all(u8::is_ascii_whitespace),
+        Wrong::UnrecognisedFeed => !line.ends_with(b"\r\n"),
+        Wrong::UnrecognisedTrailing => line.ends_with(b" \r\n"),
+        _ => false,
     }
-    let rest = &line[field.len()..];
+}
+
+/// The number of the encoding that this line says, 0 where it opens otherwise.
+fn said_encoding(line: &[u8], wrong: Wrong) -> u32 {
+    if !begins(line, ENCODING_FIELD, wrong != Wrong::EncodingFieldCase) {
+        let name = &ENCODING_FIELD[..ENCODING_FIELD.len() - 1];
+        let counts = wrong == Wrong::UnrecognisedNoColon && begins(line, name, true);
+        return if counts { UNRECOGNISED } else { 0 };
+    }
+    let rest = &line[ENCODING_FIELD.len()..];
     let spaces = count(rest, |b| b == b' ' || (b == 9 && wrong == Wrong::EncodingTab));
     if spaces == 0 && wrong == Wrong::EncodingSpace {
-        return None;
+        return UNRECOGNISED;
     }
     let rest = &rest[spaces..];
     let fits = |name: &[u8]| {
@@ -232,7 +264,7 @@ pub fn encoding(line: &[u8], wrong: Wrong) -> Option<u32> {
             behind == b"\r\n" || wrong == Wrong::EncodingMore || (wrong == Wrong::EncodingFeed && behind == b"\n");
         begins(rest, name, wrong != Wrong::EncodingCase) && ends
     };
-    ENCODINGS.iter().position(|name| fits(name)).map(|at| at as u32 + 1)
+    ENCODINGS.iter().position(|name| fits(name)).map_or(UNRECOGNISED, |at| at as u32 + 1)
 }
 
 /// What a header line says of a boundary.

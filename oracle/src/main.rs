@@ -47,7 +47,7 @@ use generate::{Generator, Kind};
 use std::process::ExitCode;
 
 const USAGE: &str = "usage:
-  oracle list [--slots N] [--plain] [--no-overlays] [--any-length] a session from standard input
+  oracle list [--slots N] [--plain | --second] [--no-overlays] [--any-length] a session from standard input
   oracle batch FILE [--second]                                     listings of a batch file; by the second reading
   oracle batch --windows FILE                                      each window's answer of a file of cut sessions
   oracle bench ENTRY FILE [--plain]                                times one large session

@@ -492,9 +492,7 @@ impl<'a> Reader<'a> {
 
     /// One header line's share; `seen` is the number of the line that was Content-Type.
     fn scan(&self, head: &mut Head<'a>, seen: &mut Option<usize>, number: usize, line: &'a [u8]) {
-        if head.encoding == 0 || self.is(Wrong::EncodingLast) {
-            head.encoding = fields::encoding(line, self.wrong).unwrap_or(head.encoding);
-        }
+        head.encoding = fields::encoding(head.encoding, line, self.wrong);
         let may_fold = match self.wrong {
             Wrong::FoldUnseen => true,
             Wrong::FoldNext => seen.is_some_and(|before| before + 1 == number),
@@ -601,7 +599,11 @@ impl<'a> Reader<'a> {
 
     fn content(&mut self, boundary: &[u8], encoding: u32) -> Step<bool> {
         let from = self.at;
-        let passed_on = self.is(Wrong::EncodingPassedOn) && encoding == 0;
+        let passed_on = match encoding {
+            0 => self.is(Wrong::EncodingPassedOn),
+            fields::UNRECOGNISED => self.is(Wrong::UnrecognisedPassedOn),
+            _ => false,
+        };
         let encoding = if passed_on { self.mail_encoding } else { encoding };
         let mark = if self.is(Wrong::EncodingOnMarks) { encoding } else { 0 };
         self.put(2, if self.is(Wrong::StartEarly) { from - 2 } else { from }, 0, mark)?;

@@ -1,4 +1,4 @@
-//! Document 01's "Sessions to check", W4's numbers, and the findings of docs/DIFFERENCES.md, as cases with
+//! Document 01's "Sessions to check", W4's numbers, W1's encodings, and the findings of docs/DIFFERENCES.md, as cases with
 //! answers; W2's sessions by windows stand beside.
 
 use crate::case::{Answer, Case, ENOUGH, Sides, readable};
@@ -126,8 +126,50 @@ fn million_digits() -> Vec<Documented> {
     ]
 }
 
+/// A POP3 mail of one line, its header these lines; the encoding that its body gets.
+fn encoded(header: &str, encoding: u32) -> Documented {
+    let mut text = "+OK 1 octets\r\n".to_string();
+    let mut listing = "8 0 12 0\n".to_string();
+    let mut count = 1;
+    for line in header.split_inclusive('\n').chain(["\r\n"]) {
+        listing += &format!("1 {} {} 0\n", text.len(), line.len());
+        text += line;
+        count += 1;
+    }
+    let n = text.len();
+    listing += &format!("2 {n} 0 0\n3 {n} 3 {encoding}\n6 {} 0 0\n1 {} {}\n", n + 3, n + 6, count + 3);
+    documented(b'P', ENOUGH, &format!("{text}x\r\n.\r\n"), &listing)
+}
+
+/// Document 02, W1: what the encoding's field says, and which of two counts.
+fn encodings() -> Vec<Documented> {
+    let field = |rest: &str| format!("Content-Transfer-Encoding:{rest}");
+    let part = "--q\r\nContent-Transfer-Encoding: x-uuencode\r\n\r\nx\r\n--q";
+    let mail = format!("+OK 1 octets\r\nContent-Type: boundary=q\r\n{}\r\n{part}", field(" base64\r\n"));
+    vec![
+        encoded(&field(" x-uuencode\r\n"), 6),
+        encoded("content-transfer-ENCODING:x\r\n", 6),
+        encoded(&field(" 7bit\n"), 6),
+        encoded(&field("\t7bit\r\n"), 6),
+        encoded(&field(" 7bit \r\n"), 6),
+        encoded(&field("\r\n"), 6),
+        encoded(&field("\r\n 7bit\r\n"), 6),
+        encoded(&(field(" x-uuencode\r\n") + &field(" base64\r\n")), 5),
+        encoded(&(field(" base64\r\n") + &field(" x-uuencode\r\n")), 5),
+        encoded("Content-Transfer-Encoding : 7bit\r\n", 0),
+        encoded("Content-Transfer-Encoding 7bit\r\n", 0),
+        documented(
+            b'P',
+            ENOUGH,
+            &mail,
+            "8 0 12 0\n1 14 26 0\n1 40 35 0\n1 75 2 0\n1 82 39 0\n1 121 2 0\n2 123 0 0\n5 123 1 6\n6 124 0 0\n1 129 9\n",
+        ),
+    ]
+}
+
 pub fn documented_cases() -> Vec<Case> {
-    all_documented().into_iter().chain(octet_numbers()).map(|documented| documented.case).collect()
+    let all = all_documented().into_iter().chain(octet_numbers()).chain(encodings());
+    all.map(|documented| documented.case).collect()
 }
 
 /// Input outside the claim, what document 01 says, and what the Rust does.
@@ -198,6 +240,12 @@ impl Judges {
         }
     }
 
+    /// The Rust and the document say the same, but that an encoding 6 is none to the Rust.
+    fn ask_both(&mut self, case: &Case, document: &str) {
+        let rust = reading::answer(case, Wrong::Nothing).as_rust().to_string();
+        self.ask(case, &rust, document);
+    }
+
     fn ask(&mut self, case: &Case, rust: &str, document: &str) {
         let answers = [
             ("stream on memchr", self.swift.answer(case), rust),
@@ -211,9 +259,9 @@ impl Judges {
 
     fn ask_around_limit(&mut self) {
         let full = vec![0; 16_777_216];
-        self.ask(&Case::session(b's', &full), "1 0 0\n", "1 0 0\n");
+        self.ask_both(&Case::session(b's', &full), "1 0 0\n");
         let over = vec![b'\n'; 16_777_217];
-        self.ask(&Case::session(b's', &over), "2 0 0\n", "2 0 0\n");
+        self.ask_both(&Case::session(b's', &over), "2 0 0\n");
     }
 }
 
@@ -244,8 +292,8 @@ pub fn run() -> bool {
         failed: 0,
         run: 0,
     };
-    for documented in all_documented().into_iter().chain(octet_numbers()).chain(million_digits()) {
-        judges.ask(&documented.case, &documented.listing, &documented.listing);
+    for documented in all_documented().into_iter().chain(octet_numbers()).chain(million_digits()).chain(encodings()) {
+        judges.ask_both(&documented.case, &documented.listing);
     }
     for finding in findings() {
         judges.ask(&finding.case, finding.rust, finding.document);
@@ -258,7 +306,7 @@ pub fn run() -> bool {
     });
     for example in &examples {
         let failed = judges.failed;
-        judges.ask(&example.case, &example.listing, &example.listing);
+        judges.ask_both(&example.case, &example.listing);
         if judges.failed > failed {
             println!("(docs/DIFFERENCES.md, line {})", example.line);
         }

@@ -1,4 +1,4 @@
-//! How sharp the cases are: each wrong reading against the oracle's answers.
+//! How sharp the cases are: each wrong reading against the right one, which the Rust confirms.
 
 use crate::case::{Answer, Case};
 use crate::generate::Generator;
@@ -18,7 +18,7 @@ pub fn told<'a>(case: &'a Case, answer: &'a Answer) -> impl Iterator<Item = usiz
 
 /// Prints the table; tells whether every wrong reading was told and the right one never.
 pub fn run(generator: Generator, count: u64) -> bool {
-    println!("# Sharpness: wrong readings of document 01 told by generated cases\n");
+    println!("# Sharpness: wrong readings of document 01 and of document 02's W1 told by generated cases\n");
     println!("Printed by `oracle sharp --seed {} --count {count}`. Case numbers count from 0.\n", generator.seed);
     let judge = SwiftJudge::new(true);
     let mut firsts: Vec<Option<u64>> = vec![None; WRONGS.len()];
@@ -26,8 +26,8 @@ pub fn run(generator: Generator, count: u64) -> bool {
     let mut right = 0;
     for number in 0..count {
         let case = generator.case(number);
-        let answer = judge.answer(&case);
-        right += u64::from(reading::answer(&case, Wrong::Nothing) != answer);
+        let answer = reading::answer(&case, Wrong::Nothing);
+        right += u64::from(judge.answer(&case) != answer.clone().as_rust());
         for at in told(&case, &answer) {
             firsts[at].get_or_insert(number);
             counts[at] += 1;

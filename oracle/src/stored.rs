@@ -7,8 +7,9 @@ use crate::cut::{self, Cut};
 use crate::generate::Generator;
 use crate::judge::SwiftJudge;
 use crate::list::{cases, read_file};
+use crate::reading;
 use crate::sharp;
-use crate::wrong::WRONGS;
+use crate::wrong::{WRONGS, Wrong};
 use std::collections::HashSet;
 use std::fs::File;
 use std::io::{BufWriter, Error, Write};
@@ -50,9 +51,9 @@ pub fn answers(from: &str, path: &str) -> Result<bool, String> {
     let judge = SwiftJudge::new(true);
     let mut out = Vec::new();
     for (number, case) in cases(from)?.iter().enumerate() {
-        let answer = judge.answer(case);
-        if let Answer::Unjudged(why) = answer {
-            return Err(format!("{from}: case {number} has no answer: {why}"));
+        let (rust, answer) = (judge.answer(case), reading::answer(case, Wrong::Nothing));
+        if rust != answer.clone().as_rust() {
+            return Err(format!("{from}: case {number}: the Rust and the second reading part, the Rust says\n{rust}"));
         }
         write_case(&mut out, case);
         write_answer(&mut out, &answer);
@@ -84,7 +85,7 @@ pub fn check(path: &str) -> Result<bool, String> {
     let all = answered(path)?;
     let mut wrong = 0;
     for (number, (case, answer)) in all.iter().enumerate() {
-        if both.swift.answer(case) != *answer || both.difference(case).is_some() {
+        if reading::answer(case, Wrong::Nothing) != *answer || both.difference(case).is_some() {
             println!("case {number} differs: {} {}", case.entry as char, readable(&case.bytes));
             wrong += 1;
         }

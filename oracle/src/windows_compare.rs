@@ -106,7 +106,7 @@ fn by_tables(cut: &Cut, rust: Option<&SwiftJudge>) -> Result<Vec<Option<Wanted>>
     Ok(all)
 }
 
-/// One call on the session's first bytes, 12 laid over it; the judge must agree but for 12.
+/// One call on the session's first bytes, 12 laid over it; the judge must agree but for 12, the Rust but for 6.
 fn one_call(cut: &Cut, end: usize, slots: usize, rust: Option<&SwiftJudge>) -> Result<Wanted, String> {
     let (entry, bytes) = (cut.case.entry, &cut.case.bytes[..end]);
     let (listing, waits) = reading::waiting_session(entry, bytes, slots, Wrong::LongRefuses);
@@ -114,9 +114,10 @@ fn one_call(cut: &Cut, end: usize, slots: usize, rust: Option<&SwiftJudge>) -> R
         Some(judge) => judge.session(entry, bytes, slots, Vec::new()).0,
         None => Answer::Session(reading::session(entry, bytes, slots, Wrong::Nothing)),
     };
+    let told = if rust.is_some() { listing.clone().as_rust() } else { listing.clone() };
     let agree = match &judged {
-        Answer::Session(judged) if listing.result == 12 => judged.events.starts_with(&listing.events),
-        Answer::Session(judged) => *judged == listing,
+        Answer::Session(judged) if told.result == 12 => judged.events.starts_with(&told.events),
+        Answer::Session(judged) => *judged == told,
         _ => false,
     };
     if !agree {

@@ -1,5 +1,6 @@
 //! What only bent readings of W2 ask for, and what they lose where a window begins.
 
+use crate::fields::UNRECOGNISED;
 use crate::windows::{Phase, Session};
 use crate::windows_mail::Head;
 use crate::wrong_windows::Bend;
@@ -30,6 +31,7 @@ impl Session {
             Bend::HeadAnew => self.head = Head::default(),
             Bend::SeenLost => self.head.seen = false,
             Bend::EncodingLost => self.head.encoding = 0,
+            Bend::UnrecognisedLost if self.head.encoding == UNRECOGNISED => self.head.encoding = 0,
             Bend::SuppliedLost => self.head.boundary = None,
             Bend::CountAnew => self.count = 0,
             Bend::RestWindow => self.rest = self.rest.map(|_| self.past.size),

@@ -83,9 +83,7 @@ impl<'a> Walk<'a> {
     fn scan(&mut self, line: &[u8]) {
         let replaces = self.is(Bend::LaterShort) && self.too_long();
         let head = &mut self.session.head;
-        if head.encoding == 0 {
-            head.encoding = fields::encoding(line, Nothing).unwrap_or(0);
-        }
+        head.encoding = fields::encoding(head.encoding, line, Nothing);
         if head.boundary.is_some() && !replaces {
             return;
         }

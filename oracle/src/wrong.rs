@@ -1,4 +1,4 @@
-//! Named wrong readings of document 01, each with the entries it could show in.
+//! Named wrong readings of document 01 (and of document 02's W1, the encoding 6), each with the entries it could show in.
 
 macro_rules! wrongs {
     ($($name:ident $entries:literal $text:literal)*) => {
@@ -138,7 +138,7 @@ wrongs! {
     DotFeed "SP" "dot LF ends a body"
     DotListed "SP" "the dot line is a body line"
     StopAfterDot "SP" "stop stands behind the dot line"
-    EncodingLast "SPI" "the last encoding wins"
+    EncodingLast "SPI" "the last valid encoding wins"
     EncodingCase "SPI" "encoding names in lower case only"
     EncodingFieldCase "SPI" "the encoding field's name in one case only"
     EncodingTab "SPI" "TAB may follow the encoding field's colon"
@@ -146,6 +146,15 @@ wrongs! {
     EncodingMore "SPI" "anything may follow the encoding's name"
     EncodingFeed "SPI" "LF alone may follow the encoding's name"
     EncodingPassedOn "SPI" "a part without encoding takes the mail's"
+    UnrecognisedNone "SPI" "an encoding that is not valid is none"
+    UnrecognisedStays "SPI" "a valid encoding behind one that is not valid does not count"
+    UnrecognisedWins "SPI" "an encoding that is not valid takes the place of a valid one"
+    UnrecognisedNoColon "SPI" "the encoding field's name says 6 without its colon"
+    UnrecognisedFieldCase "SPI" "the encoding field's name says 6 in one case only"
+    UnrecognisedEmpty "SPI" "an empty encoding is none"
+    UnrecognisedFeed "SPI" "an encoding field that ends in a bare LF is none"
+    UnrecognisedTrailing "SPI" "an encoding field with a space before its CRLF is none"
+    UnrecognisedPassedOn "SPI" "a part whose encoding is not valid takes the mail's"
     TypeNoSpace "SPI" "Content-Type: needs no space"
     UnquotedFirst "SPI" "the first boundary= decides, quoted or not"
     WordAnyCase "SPI" "boundary= in any case"

@@ -90,6 +90,7 @@ bends! {
     HeadAnew "SPI" "the header scan begins anew at each window"
     SeenLost "SPI" "Content-Type seen is lost at a window's end"
     EncodingLost "SPI" "the encoding is lost at a window's end"
+    UnrecognisedLost "SPI" "that an encoding was not valid is lost at a window's end"
     SuppliedLost "SPI" "a boundary that is supplied and not yet open is lost at a window's end"
     OutermostLost "SPI" "the outermost boundary is lost at a window's end, the innermost stands in"
     InnerLost "SPI" "the inner boundaries are lost at a window's end, the outermost stands in"
