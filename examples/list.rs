@@ -30,7 +30,7 @@ mod mailindex {
         pub const DISSECT: [Dissect; 4] = [mailindex_smtp_client, mailindex_smtp_server, mailindex_pop3_server, mailindex_imap_client];
     }
 
-    pub const VERSION: u32 = 2;
+    pub const VERSION: u32 = 3;
     pub const LIMIT: usize = 16_777_216;
     pub const WIDTH: usize = 4;
     /// The result of a session that goes on where there is more of it.
@@ -77,10 +77,12 @@ mod mailindex {
         Binary,
         QuotedPrintable,
         Base64,
+        Unrecognised,
     }
 
-    const ENCODINGS: [Encoding; 6] =
-        [Encoding::Unsaid, Encoding::Bit7, Encoding::Bit8, Encoding::Binary, Encoding::QuotedPrintable, Encoding::Base64];
+    const ENCODINGS: [Encoding; 7] = [
+        Encoding::Unsaid, Encoding::Bit7, Encoding::Bit8, Encoding::Binary, Encoding::QuotedPrintable, Encoding::Base64, Encoding::Unrecognised,
+    ];
 
     /// Offset and length are bytes of the session.
     #[derive(Clone, Copy, Debug, PartialEq, Eq)]

@@ -22,7 +22,7 @@ extern "C" {
 #endif
 
 /* What this header describes; mailindex_version() says what the library is. */
-#define MAILINDEX_VERSION 2
+#define MAILINDEX_VERSION 3
 
 /* The longest session, in bytes; and how many numbers of the table an event takes. */
 #define MAILINDEX_LIMIT 16777216
@@ -58,14 +58,17 @@ enum mailindex_kind {
     MAILINDEX_RECIPIENT = 12
 };
 
-/* What the header said of a body: on kinds 3, 4 and 5; 0 on all others. */
+/* What the header said of a body: on kinds 3, 4 and 5; 0 on all others. NO_ENCODING: nothing. UNKNOWN_ENCODING: it has a line that opens with
+ * Content-Transfer-Encoding: and none that is valid, which is the field, spaces or none, one of the five names, CRLF. So x-uuencode is unknown, and so
+ * is 7bit with a tab before it, with a space, a comment or a bare LF behind it, or on the next line. A part goes by its own header. */
 enum mailindex_encoding {
     MAILINDEX_NO_ENCODING = 0,
     MAILINDEX_7BIT = 1,
     MAILINDEX_8BIT = 2,
     MAILINDEX_BINARY = 3,
     MAILINDEX_QUOTED_PRINTABLE = 4,
-    MAILINDEX_BASE64 = 5
+    MAILINDEX_BASE64 = 5,
+    MAILINDEX_UNKNOWN_ENCODING = 6
 };
 
 /* The first number of an answer. In brackets: the place that comes with it.

@@ -22,7 +22,7 @@ use Rattle.mailindex.specs.declared.Chosen.the-variants as chose
 
 -- MAILINDEX_VERSION of include/mailindex.h
 abbrev pub version : ℕ
-version = 2
+version = 3
 
 -- result, place, count
 abbrev pub numbersOf : Answer → List ℕ

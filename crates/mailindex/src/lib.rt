@@ -8,7 +8,7 @@ use events::Log;
 use events::Outcome;
 use rules::Entry;
 
-const VERSION: u32 = 2;
+const VERSION: u32 = 3;
 
 // The entry that a session's choices name.
 pub enum Chosen {
