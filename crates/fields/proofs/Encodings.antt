@@ -9,7 +9,7 @@ use Prim.Native.String.{String}
 use native.Mathlib.Omega.{arith}
 use lib.Dec.{eqb, ltb}
 use lib.ListN.{length, drop}
-use borrow.Author.Tests.{le-ltb, ltb-false}
+use borrow.Author.Tests.{le-ltb, ltb-true, ltb-false}
 use Rattle.events.specs.Events.{encodingNumber}
 use Rattle.events.specs.declared.Encoding.{Encoding}
 use Rattle.events.specs.declared.Encoding.the-variants.{Unsaid, Bit7, Bit8, Binary, QuotedPrintable, Base64, Unrecognised}
@@ -200,30 +200,27 @@ asNone QuotedPrintable = QuotedPrintable
 asNone Base64 = Base64
 asNone Unrecognised = Unsaid
 
-unsaid-yields : (x : Encoding) → asNone (cond (ltb 0 (rank x)) x Unsaid) ≡ asNone x
-unsaid-yields Unsaid = refl
-unsaid-yields Bit7 = refl
-unsaid-yields Bit8 = refl
-unsaid-yields Binary = refl
-unsaid-yields QuotedPrintable = refl
-unsaid-yields Base64 = refl
-unsaid-yields Unrecognised = refl
+low-none : (e : Encoding) → rank e ≤ 1 → asNone e ≡ Unsaid
+low-none Unsaid h = refl
+low-none Bit7 h = absurd (omega arith)
+low-none Bit8 h = absurd (omega arith)
+low-none Binary h = absurd (omega arith)
+low-none QuotedPrintable h = absurd (omega arith)
+low-none Base64 h = absurd (omega arith)
+low-none Unrecognised h = refl
 
-unrecognised-yields : (x : Encoding) → asNone (cond (ltb 1 (rank x)) x Unrecognised) ≡ asNone x
-unrecognised-yields Unsaid = refl
-unrecognised-yields Bit7 = refl
-unrecognised-yields Bit8 = refl
-unrecognised-yields Binary = refl
-unrecognised-yields QuotedPrintable = refl
-unrecognised-yields Base64 = refl
-unrecognised-yields Unrecognised = refl
+yields : (e : Encoding) (l : List ℕ) → rank e ≤ 1 → asNone (firstEncoding e l) ≡ asNone (transferEncoding l)
+yields e l h =
+    by-test (ltb 0 (rank (transferEncoding l))) (λ t. ap asNone (counts e l h (ltb-true _ _ t)))
+    (λ f.
+    let silent : rank (transferEncoding l) ≤ 0 = ltb-false _ _ f in
+    ap asNone (keeps e l silent) ∙ low-none e h ∙ sym (low-none (transferEncoding l) (omega (arith, silent))))
 
 pub as-none : (e : Encoding) (l : List ℕ) → asNone (firstEncoding e l) ≡ cond (eqb (encodingNumber (asNone e)) 0) (asNone (transferEncoding l)) (asNone e)
-unfolding firstEncoding
-as-none Unsaid l = unsaid-yields (transferEncoding l)
+as-none Unsaid l = yields Unsaid l (omega arith)
 as-none Bit7 l = ap asNone (stays Bit7 l (omega arith))
 as-none Bit8 l = ap asNone (stays Bit8 l (omega arith))
 as-none Binary l = ap asNone (stays Binary l (omega arith))
 as-none QuotedPrintable l = ap asNone (stays QuotedPrintable l (omega arith))
 as-none Base64 l = ap asNone (stays Base64 l (omega arith))
-as-none Unrecognised l = unrecognised-yields (transferEncoding l)
+as-none Unrecognised l = yields Unrecognised l (omega arith)
