@@ -24,9 +24,13 @@ pub enum Answer {
 }
 
 impl Listing {
-    /// As the Rust says it: an encoding that is not recognised is none there.
+    /// As the Rust says it: a body's encoding that is not recognised is none there.
     pub fn as_rust(mut self) -> Listing {
-        self.events.iter_mut().filter(|event| event[3] == UNRECOGNISED).for_each(|event| event[3] = 0);
+        for event in &mut self.events {
+            if let [3..=5, _, _, UNRECOGNISED] = event {
+                event[3] = 0;
+            }
+        }
         self
     }
 }
