@@ -9,7 +9,8 @@ use lib.ListN.{replicate, length-replicate}
 use Rattle.classes.specs.Classes.{upperOf, isLetter, isUpper, isWhite, isBlank, isPopWhite, isDigit}
 use Rattle.reading.specs.Bytes.{startsWith, same, endsWith, raised, first, firstPlace, holds, stands, found, contains}
 use Rattle.reading.specs.Text.{text}
-use Rattle.fields.specs.Imap.{appendFollows, isAppend, dark, trimmed, braced, fromBrace, sizeOf, appendSize, holdsColon}
+use Rattle.utf8.specs.Utf8.{octetsOf, isScalar, isSpace, isTail, lawful, sequence, opened, character, onto, behind, characters, size, isUtf8, darkLead, darkEnd}
+use Rattle.fields.specs.Imap.{tag, appendFollows, isAppend, dark, textEnd, trimmed, braced, fromBrace, sizeOf, appendSize, holdsColon}
 use Rattle.fields.specs.Pop3.{stlsAnswer, octets, octetsFollow, numbered, retrAnswer}
 use Rattle.fields.specs.Runs.{runs, lead, last, lastPlace, through, worthBehind, worth}
 use Rattle.fields.proofs.Compared.{longer}
@@ -97,7 +98,7 @@ pub appends :
     ∷ isAppend (text "")
     ∷ []
     ≡ true ∷ true ∷ false ∷ false ∷ false ∷ false ∷ false ∷ false ∷ false ∷ []
-unfolding isAppend appendFollows lead runs isWhite isBlank startsWith
+unfolding isAppend tag appendFollows isUtf8 characters behind onto character opened octetsOf size darkLead isSpace lead runs isWhite isBlank startsWith
 appends = refl
 
 -- the last { opens the size, and bytes may stand behind its }; a sign or no digit is 0; so is 2^64, but not the number below it
@@ -109,7 +110,8 @@ pub sizes :
     ∷ appendSize (text "{18446744073709551615}")
     ∷ []
     ≡ 10 ∷ 0 ∷ 0 ∷ 0 ∷ 18446744073709551615 ∷ []
-unfolding appendSize sizeOf trimmed through dark fromBrace braced worth worthBehind last lastPlace holds lead runs isWhite isDigit endsWith same startsWith
+unfolding appendSize sizeOf trimmed textEnd isUtf8 characters behind onto character opened octetsOf size darkEnd isSpace through dark fromBrace braced worth
+    worthBehind last lastPlace holds lead runs isWhite isDigit endsWith same startsWith
 sizes = refl
 
 -- white space behind, two pairs of braces, bytes between two }, no closing brace, none that opens, nothing
@@ -123,8 +125,42 @@ pub further-sizes :
     ∷ appendSize (text " ")
     ∷ []
     ≡ 11 ∷ 7 ∷ 3 ∷ 0 ∷ 0 ∷ 0 ∷ 0 ∷ []
-unfolding appendSize sizeOf trimmed through dark fromBrace braced worth worthBehind last lastPlace holds lead runs isWhite isDigit endsWith same startsWith
+unfolding appendSize sizeOf trimmed textEnd isUtf8 characters behind onto character opened octetsOf size darkEnd isSpace through dark fromBrace braced worth
+    worthBehind last lastPlace holds lead runs isWhite isDigit endsWith same startsWith
 further-sizes = refl
+
+-- document 02, W8. White space ends a tag: U+0085, U+3000, not U+200B nor the letter e with an accent; where the line is no UTF-8, no byte above 127 does;
+-- behind the tag only blanks count
+pub wide-appends :
+    isAppend (0xc2 ∷ 0x85 ∷ text " APPEND")
+    ∷ isAppend (0x61 ∷ 0xe3 ∷ 0x80 ∷ 0x80 ∷ 0x62 ∷ text " APPEND")
+    ∷ isAppend (0xe2 ∷ 0x80 ∷ 0x8b ∷ text " APPEND")
+    ∷ isAppend (0xc3 ∷ 0xa9 ∷ text " APPEND")
+    ∷ isAppend (0x85 ∷ text " APPEND")
+    ∷ isAppend (0xc2 ∷ 0x85 ∷ text " APPEND" ++ (0x80 ∷ []))
+    ∷ isAppend (0x61 ∷ 0xc2 ∷ 0xa0 ∷ text "APPEND")
+    ∷ isAppend (0x61 ∷ 0x20 ∷ 0xc2 ∷ 0xa0 ∷ text "APPEND")
+    ∷ []
+    ≡ false ∷ false ∷ true ∷ true ∷ true ∷ true ∷ false ∷ false ∷ []
+unfolding isAppend tag appendFollows isUtf8 characters behind onto character opened sequence lawful isTail isScalar octetsOf size darkLead isSpace lead runs
+    isWhite isBlank startsWith
+wide-appends = refl
+
+-- it is dropped behind the brace, mixed with other white space; a space in two octets, one octet alone and a surrogate are none, and keep a line from being UTF-8
+pub wide-sizes :
+    appendSize (text "{7}" ++ (0xc2 ∷ 0xa0 ∷ []))
+    ∷ appendSize (text "{7} " ++ (0xe2 ∷ 0x80 ∷ 0x83 ∷ 9 ∷ 0xe3 ∷ 0x80 ∷ 0x80 ∷ 11 ∷ []))
+    ∷ appendSize (text "{7}" ++ (0xe2 ∷ 0x80 ∷ 0x8b ∷ []))
+    ∷ appendSize (text "{7}" ++ (0xc3 ∷ 0xa9 ∷ 0xc2 ∷ 0xa0 ∷ []))
+    ∷ appendSize (text "{7}" ++ (0xc0 ∷ 0xa0 ∷ []))
+    ∷ appendSize (text "{7}" ++ (0xa0 ∷ []))
+    ∷ appendSize (0xed ∷ 0xa0 ∷ 0x80 ∷ text "{7}" ++ (0xc2 ∷ 0xa0 ∷ []))
+    ∷ appendSize (0xed ∷ 0xa0 ∷ 0x80 ∷ text "{7} ")
+    ∷ []
+    ≡ 7 ∷ 7 ∷ 0 ∷ 0 ∷ 0 ∷ 0 ∷ 0 ∷ 7 ∷ []
+unfolding appendSize sizeOf trimmed textEnd isUtf8 characters behind onto character opened sequence lawful isTail isScalar octetsOf size darkEnd isSpace through
+    dark fromBrace braced worth worthBehind last lastPlace holds lead runs isWhite isDigit endsWith same startsWith
+wide-sizes = refl
 
 pub colons :
     holdsColon (text "T: u\r\n") ∷ holdsColon (text ":") ∷ holdsColon (text "b NOOP\r\n") ∷ []

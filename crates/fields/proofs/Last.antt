@@ -3,10 +3,12 @@
 use mathlib.Core.Path.{_≡_, refl, sym, ap, _∙_}
 use mathlib.Core.Bool.{Bool, true, false, cond}
 use mathlib.Core.List.{List}
-use Prim.Native.Nat.{ℕ, zero, suc, _-_, _≤_, _<_}
+use Prim.Native.Nat.{ℕ, zero, suc, _+_, _-_, _≤_, _<_}
 use native.Mathlib.Omega.{arith}
+use lib.Dec.{ltb}
 use lib.ListN.{length}
-use Rattle.reading.proofs.Places.{at-same}
+use borrow.Author.Tests.{ltb-true, ltb-false}
+use Rattle.reading.proofs.Places.{at-same, by-test}
 use Rattle.reading.specs.declared.Place.{Place}
 use Rattle.reading.specs.declared.Place.the-variants.{At, Nowhere}
 use Rattle.fields.specs.Runs.{last, lastPlace, through}
@@ -73,3 +75,28 @@ through-below n Nowhere h = omega arith
 
 pub through-within : (test : ℕ → Bool) (l : List ℕ) → through (lastPlace test l) ≤ length l
 through-within test l = through-below (length l) (lastPlace test l) (last-inside test l)
+
+-- behind it none passes, and itself it does
+module _ (test : ℕ → Bool) where
+  behind-turn : (n p : ℕ) (b : Bool) → test n ≡ b → (through (last test n) ≤ p → p < n → test p ≡ false)
+      → through (cond b (At n) (last test n)) ≤ p → p < suc n → test p ≡ false
+  unfolding through
+  behind-turn n p true t i h g = absurd (omega arith)
+  behind-turn n p false t i h g =
+      by-test (ltb p n) (λ s. i h (ltb-true p n s)) (λ s. let e : p ≡ n = omega (arith, ltb-false p n s) in ap test e ∙ t)
+
+  pub last-behind : (n p : ℕ) → through (last test n) ≤ p → p < n → test p ≡ false
+  unfolding last
+  last-behind zero p h g = absurd (omega arith)
+  last-behind (suc n) p h g = behind-turn n p (test n) refl (last-behind n p) h g
+
+  passes-turn : (n : ℕ) (b : Bool) → test n ≡ b → (0 < through (last test n) → test (through (last test n) - 1) ≡ true) → 0 < through (cond b (At n) (last test n))
+      → test (through (cond b (At n) (last test n)) - 1) ≡ true
+  unfolding through
+  passes-turn n true t i h = let m : n + 1 - 1 ≡ n = omega arith in ap test m ∙ t
+  passes-turn n false t i h = i h
+
+  pub last-passes : (n : ℕ) → 0 < through (last test n) → test (through (last test n) - 1) ≡ true
+  unfolding last through
+  last-passes zero h = absurd (omega arith)
+  last-passes (suc n) h = passes-turn n (test n) refl (last-passes n) h

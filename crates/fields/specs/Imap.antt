@@ -1,4 +1,4 @@
--- What a line of an IMAP client says: document 01, 'IMAP client'. Ports the line tests of imap.rs.
+-- What a line of an IMAP client says: document 01, 'IMAP client', with document 02's W8. Ports the line tests of imap.rs.
 -- Assumes nothing.
 use mathlib.Core.Bool.{Bool, cond, not, _&&_}
 use mathlib.Core.List.{List}
@@ -10,6 +10,7 @@ use Rattle.reading.specs.Bytes.{startsWith, endsWith, holds, contains}
 use Rattle.reading.specs.Text.{text}
 use Rattle.reading.specs.declared.Place.{Place}
 use Rattle.reading.specs.declared.Place.the-variants.{At, Nowhere}
+use Rattle.utf8.specs.Utf8.{characters, isUtf8, darkLead, darkEnd}
 use Rattle.fields.specs.Runs.{lead, lastPlace, through, worth}
 use Rattle.fields.specs.declared.runs.Run.the-variants.{Blanks, Digits, Dark}
 
@@ -17,17 +18,25 @@ use Rattle.fields.specs.declared.runs.Run.the-variants.{Blanks, Digits, 
 unfoldable pub appendFollows : List ℕ → Bool
 appendFollows l = ltb 0 (lead Blanks l) && startsWith (text "APPEND") (drop (lead Blanks l) l)
 
--- non-white bytes and blanks, at least one each, then APPEND open it
+-- the tag, up to white space: of characters where the line is UTF-8, else of bytes
+unfoldable pub tag : List ℕ → ℕ
+tag l = cond (isUtf8 l) (darkLead (characters l)) (lead Dark l)
+
+-- a tag and blanks, at least one byte each, then APPEND open it
 unfoldable pub isAppend : List ℕ → Bool
-isAppend l = ltb 0 (lead Dark l) && appendFollows (drop (lead Dark l) l)
+isAppend l = ltb 0 (tag l) && appendFollows (drop (tag l) l)
 
 -- the byte at p is not white
 unfoldable pub dark : List ℕ → ℕ → Bool
 dark l p = not (isWhite (getD l p 0))
 
--- without trailing white space: up to the last byte that is not white
+-- where trailing white space begins: behind the last character that is not white where the line is UTF-8, else behind the last such byte
+unfoldable pub textEnd : List ℕ → ℕ
+textEnd l = cond (isUtf8 l) (darkEnd (characters l)) (through (lastPlace (dark l) l))
+
+-- without trailing white space
 unfoldable pub trimmed : List ℕ → List ℕ
-trimmed l = take (through (lastPlace (dark l) l)) l
+trimmed l = take (textEnd l) l
 
 -- behind the {: digits, one at least, and }, worth below 2^64; otherwise 0
 unfoldable pub braced : List ℕ → ℕ

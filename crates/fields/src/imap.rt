@@ -1,7 +1,8 @@
 // What a line of an IMAP client says. Ports `append` and the test of `append_ok` of imap.rs.
 ghost use mathlib.Core.Path.{_≡_};
+ghost use Rattle.classes.specs.Classes.{isWhite};
 ghost use Rattle.fields.specs.Runs.{lastPlace, through};
-ghost use Rattle.fields.specs.Imap.{isAppend, appendFollows, dark, braced, sizeOf, appendSize, holdsColon};
+ghost use Rattle.fields.specs.Imap.{tag, isAppend, appendFollows, dark, textEnd, braced, sizeOf, appendSize, holdsColon};
 use crate::runs::Number;
 use crate::runs::Run;
 use crate::runs::decimal;
@@ -13,11 +14,49 @@ use reading::Place;
 pub fn append(l: &[u8]) -> bool
     ensures { λ r. ⌜ r ≡ isAppend (now (l .entry)) ⌝ }
 {
-    let tag = leading(l, Run::Dark);
-    if tag == 0 {
+    let n = tag(l);
+    if n == 0 {
         return false;
     }
-    append_follows(&l[tag..])
+    append_follows(&l[n..])
+}
+
+// The length of the tag. Only a byte above 127 in it asks for the line's characters.
+fn tag(l: &[u8]) -> usize
+    ensures { λ r. ⌜ r ≡ tag (now (l .entry)) ⌝ }
+{
+    let mut i = 0;
+    while i < l.len() {
+        let b = l[i];
+        if 127 < b {
+            return wide_tag(l);
+        }
+        if ends_tag(b) {
+            return i;
+        }
+        i += 1;
+    }
+    i
+}
+
+// Whether a byte is white. The class table is asked only of bytes that may be: most of a tag is not.
+fn ends_tag(b: u8) -> bool
+    ensures { λ r. ⌜ r ≡ isWhite b ⌝ }
+{
+    if 32 < b {
+        return false;
+    }
+    classes::is_white(b)
+}
+
+// The same as `tag`, whatever stands in it.
+fn wide_tag(l: &[u8]) -> usize
+    ensures { λ r. ⌜ r ≡ tag (now (l .entry)) ⌝ }
+{
+    if utf8::is_utf8(l) {
+        return utf8::dark_lead(l);
+    }
+    leading(l, Run::Dark)
 }
 
 // Whether blanks and `APPEND` open it.
@@ -35,11 +74,29 @@ fn append_follows(l: &[u8]) -> bool
 pub fn append_size(l: &[u8]) -> u64
     ensures { λ r. ⌜ r ≡ appendSize (now (l .entry)) ⌝ }
 {
-    let n = dark_end(l);
+    let n = text_end(l);
     size_of(&l[..n])
 }
 
-// The length of a line without its trailing white space.
+// The length of a line without its trailing white space. Only a byte above 127 before it asks for the line's characters.
+fn text_end(l: &[u8]) -> usize
+    ensures { λ r. ⌜ r ≡ textEnd (now (l .entry)) ⌝ }
+{
+    let n = dark_end(l);
+    if n == 0 {
+        return 0;
+    }
+    let last = n - 1;
+    if l[last] <= 127 {
+        return n;
+    }
+    if utf8::is_utf8(l) {
+        return utf8::dark_end(l);
+    }
+    n
+}
+
+// The same by bytes: up to the last that is not white.
 fn dark_end(l: &[u8]) -> usize
     ensures { λ r. ⌜ r ≡ through (lastPlace (dark (now (l .entry))) (now (l .entry))) ⌝ }
 {

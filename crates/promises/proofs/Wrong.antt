@@ -13,9 +13,10 @@ use Rattle.events.specs.Events.{ev, numbers, resultNumber, encodingNumber, size
 use Rattle.events.specs.Table.{Final, noEvents, store, pour, finish, tableOf}
 use Rattle.events.specs.declared.Encoding.the-variants.{Unsaid, Base64}
 use Rattle.events.specs.declared.Outcome.the-variants.{TooDeep}
+use Rattle.utf8.specs.Utf8.{octetsOf, isScalar, isSpace, isTail, lawful, sequence, opened, character, onto, behind, characters, size, isUtf8, darkLead, darkEnd}
 use Rattle.fields.specs.Common.{encodingNamed, behindSpaces, transferEncoding, closed, quoted, unquoted, typed, named, bareParameter, parameter, contentType, contentTypeExt}
 use Rattle.fields.specs.Common.{firstEncoding, byType, byExt, byBoundary, scanned, unknown, dashBdry}
-use Rattle.fields.specs.Imap.{appendFollows, isAppend, dark, trimmed, braced, fromBrace, sizeOf, appendSize, holdsColon}
+use Rattle.fields.specs.Imap.{appendFollows, tag, isAppend, dark, textEnd, trimmed, braced, fromBrace, sizeOf, appendSize, holdsColon}
 use Rattle.fields.specs.Pop3.{stlsAnswer, octets, octetsFollow, numbered, retrAnswer}
 use Rattle.fields.specs.Runs.{runs, lead, last, lastPlace, through, worthBehind, worth, upTo}
 use Rattle.fields.specs.Smtp.{startsWithHelo, isMailFrom, secondLine, isData, upToEnd, closing as closingAt, mailFrom, required, rcptTo}
@@ -52,7 +53,7 @@ says-yes =
     ∷ same (text "ab") (text "ab") ∷ same (raised (text "ab")) (raised (text "aB")) ∷ endsWith (text "bc") (text "abc") ∷ contains (raised (text "tls")) (raised (text "STLS"))
     ∷ dashBdry (text "q") (text "--q--\r\n") ∷ isAppend (text "a APPEND") ∷ holdsColon (text "a:")
     ∷ stlsAnswer (text "+OK Tls") ∷ retrAnswer (text "+OK 1 octets") ∷ octets (text "4294967295")
-    ∷ startsWithHelo (text "ehlo") ∷ isMailFrom (text "mail from:") ∷ isData (text "data")
+    ∷ startsWithHelo (text "ehlo") ∷ isMailFrom (text "mail from:") ∷ isData (text "data") ∷ isUtf8 (0xc2 ∷ 0xa0 ∷ [])
     ∷ []
 
 abbrev says-no : List Bool
@@ -62,12 +63,13 @@ says-no =
     ∷ same (text "ab") (text "abc") ∷ same (raised (text "ab")) (raised (text "a")) ∷ endsWith (text "bc") (text "bcd") ∷ contains (raised (text "tls")) (raised (text "tl"))
     ∷ dashBdry (text "q") (text "--q\n") ∷ isAppend (text "APPEND") ∷ holdsColon (text "a")
     ∷ stlsAnswer (text "-ERR tls") ∷ retrAnswer (text "+OK12 octets") ∷ octets (text "4294967296")
-    ∷ startsWithHelo (text "helx") ∷ isMailFrom (text "mail from") ∷ isData (text "dat")
+    ∷ startsWithHelo (text "helx") ∷ isMailFrom (text "mail from") ∷ isData (text "dat") ∷ isUtf8 (0xc0 ∷ 0xa0 ∷ [])
     ∷ []
 
-pub neither-always-nor-never : (says-yes ≡ replicate 21 true) × (says-no ≡ replicate 21 false)
+pub neither-always-nor-never : (says-yes ≡ replicate 22 true) × (says-no ≡ replicate 22 false)
 unfolding isWhite isBlank isPopWhite isDigit isLetter isUpper upperOf startsWith same endsWith raised contains found first firstPlace stands holds
-    dashBdry isAppend appendFollows lead runs holdsColon stlsAnswer retrAnswer numbered octets octetsFollow worth worthBehind startsWithHelo isMailFrom isData
+    dashBdry isAppend tag isUtf8 size darkLead isSpace characters behind onto character opened sequence lawful isTail isScalar octetsOf appendFollows lead
+    runs holdsColon stlsAnswer retrAnswer numbered octets octetsFollow worth worthBehind startsWithHelo isMailFrom isData
 neither-always-nor-never = (refl, refl)
 
 -- ---- answers as numbers
@@ -143,6 +145,9 @@ leaves =
     (known (scanned (scanned unknown (text "Content-Type: boundary=q\r\n")) (text "Content-Type: boundary=z\r\n") .boundary) is-neither text "z" nor []) ∷
     -- append_size: the first brace closes all; too large a number wraps
     (appendSize (text "{10}}") ∷ appendSize (text "{18446744073709551616}") ∷ [] is-neither 0 ∷ 0 ∷ [] nor 10 ∷ 18446744073709551616 ∷ []) ∷
+    -- dark_lead and dark_end of utf8: a no-break space is none; one octet of it is left
+    (darkLead (characters (97 ∷ 0xc2 ∷ 0xa0 ∷ [])) ∷ [] is-neither 3 ∷ [] nor 2 ∷ []) ∷
+    (darkEnd (characters (97 ∷ 0xc2 ∷ 0xa0 ∷ [])) ∷ [] is-neither 3 ∷ [] nor 2 ∷ []) ∷
     -- leading: one too many; none
     (lead run.Digits (text "12a") ∷ [] is-neither 3 ∷ [] nor 0 ∷ []) ∷
     -- find_last: the first place; none
@@ -187,12 +192,13 @@ dissectors =
     (outcome (imapClient (replicate 4 99) (text "a\nb")) is-neither 0 ∷ 2 ∷ 1 ∷ 7 ∷ 0 ∷ 1 ∷ 0 ∷ [] nor 1 ∷ 2 ∷ 1 ∷ replicate 4 99) ∷
     []
 
-pub wrong-answers : map met (leaves ++ dissectors) ≡ replicate 28 false
+pub wrong-answers : map met (leaves ++ dissectors) ≡ replicate 30 false
 unfolding answer settle resultOf placeOf react reacts need wants runs-on go turn fetch parted reach past first firstPlace holds stands found contains
     delimits mayStand startsWith same endsWith raised clean dropEnd upperOf isLetter isUpper isWhite isBlank isPopWhite isDigit store pour finish
     lead runs last lastPlace through worth worthBehind upTo transferEncoding encodingNamed behindSpaces closed quoted unquoted typed named bareParameter
     parameter contentType contentTypeExt firstEncoding byType byExt byBoundary scanned dashBdry startsWithHelo isMailFrom secondLine isData upToEnd
-    closingAt mailFrom required rcptTo stlsAnswer octets octetsFollow numbered retrAnswer appendFollows isAppend dark trimmed braced fromBrace sizeOf
+    closingAt mailFrom required rcptTo stlsAnswer octets octetsFollow numbered retrAnswer appendFollows tag isAppend dark textEnd trimmed braced
+    isUtf8 size darkLead darkEnd isSpace characters behind onto character opened sequence lawful isTail isScalar octetsOf fromBrace sizeOf
     appendSize holdsColon afterMail plainMail boundaryFree begun onHead onText onHello given bySecond onSecond onRecipient byRecipient onReply onStatus
     onCommand onOffered guess confirm
 wrong-answers = refl

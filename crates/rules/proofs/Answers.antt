@@ -11,12 +11,13 @@ use Rattle.events.specs.Table.{Final, store, pour, finish}
 use Rattle.reading.specs.Text.{text}
 use Rattle.reading.specs.Bytes.{startsWith, same, endsWith, raised, first, firstPlace, holds, stands, found, contains}
 use Rattle.reading.specs.Reading.{clean, dropEnd, mayStand, delimits, past, reach, parted, fetch}
+use Rattle.utf8.specs.Utf8.{octetsOf, isScalar, isSpace, isTail, lawful, sequence, opened, character, onto, behind, characters, size, isUtf8, darkLead, darkEnd}
 use Rattle.fields.specs.Runs.{runs, lead, last, lastPlace, through, worthBehind, worth}
 use Rattle.fields.specs.Common.{encodingNamed, behindSpaces, transferEncoding, closed, quoted, unquoted, typed, named, bareParameter, parameter, contentType, contentTypeExt}
 use Rattle.fields.specs.Common.{firstEncoding, byType, byExt, byBoundary, scanned, dashBdry}
 use Rattle.fields.specs.Smtp.{startsWithHelo, isMailFrom, secondLine, isData, upToEnd, closing as closingAt, mailFrom, required, rcptTo}
 use Rattle.fields.specs.Pop3.{stlsAnswer, octets, octetsFollow, numbered, retrAnswer}
-use Rattle.fields.specs.Imap.{appendFollows, isAppend, dark, trimmed, braced, fromBrace, sizeOf, appendSize, holdsColon}
+use Rattle.fields.specs.Imap.{appendFollows, tag, isAppend, dark, textEnd, trimmed, braced, fromBrace, sizeOf, appendSize, holdsColon}
 use Rattle.rules.specs.Machine.{turn, go, run}
 use Rattle.rules.specs.Phases.{wants, need}
 use Rattle.rules.specs.Mail.{afterMail, literalBody, rest, plainMail, boundaryFree, begun, onHead, onText, held, whole, onLiteral}
@@ -237,8 +238,26 @@ rests =
     ((7, 0, 13, 0) ∷ (1, 15, 26, 0) ∷ (1, 41, 2, 0) ∷ (1, 48, 2, 0) ∷ (2, 50, 0, 0) ∷ (6, 50, 0, 0) ∷ (7, 67, 1, 0) ∷ []) 1 70 ∷
     []
 
+-- white space above 127 in an append's line (document 02, W8)
+abbrev wides : List Case
+wides =
+    -- a no-break space behind the brace: the size is 4
+    on ImapClient (text "a APPEND{4}" ++ (0xc2 ∷ 0xa0 ∷ text "\n:\n\r\n"))
+    ((7, 0, 13, 0) ∷ (1, 14, 2, 0) ∷ (1, 16, 2, 0) ∷ (2, 18, 0, 0) ∷ (6, 18, 0, 0) ∷ []) 1 18 ∷
+    -- its last octet alone, and a whole one in a line that has another byte too many: no UTF-8, and the size is 0
+    on ImapClient (text "a APPEND{4}" ++ (0xa0 ∷ text "\n:\n\r\n"))
+    ((7, 0, 12, 0) ∷ (1, 13, 2, 0) ∷ (1, 15, 2, 0) ∷ []) 7 17 ∷
+    on ImapClient (text "a APPEND " ++ (0x80 ∷ text "{4}" ++ (0xc2 ∷ 0xa0 ∷ text "\n:\n\r\n")))
+    ((7, 0, 15, 0) ∷ (1, 16, 2, 0) ∷ (1, 18, 2, 0) ∷ []) 7 20 ∷
+    -- a next line alone is no tag; a letter above 127 is one
+    on ImapClient (0xc2 ∷ 0x85 ∷ text " APPEND\n:\n")
+    ((7, 0, 9, 0) ∷ (7, 10, 1, 0) ∷ []) 1 12 ∷
+    on ImapClient (0xc3 ∷ 0xa9 ∷ text " APPEND\n:\n")
+    ((7, 0, 9, 0) ∷ (1, 10, 2, 0) ∷ []) 1 12 ∷
+    []
+
 abbrev further : List Case
-further = envelopes ++ mails ++ encodings ++ multiparts ++ rests
+further = envelopes ++ mails ++ encodings ++ multiparts ++ rests ++ wides
 
 -- every case's answer is the wanted one
 abbrev Holds : List Case → Type 0
@@ -249,7 +268,8 @@ unfolding answer settle resultOf placeOf react reacts need wants run go turn fet
     delimits mayStand startsWith same endsWith raised clean dropEnd upperOf isLetter isUpper isWhite isBlank isPopWhite isDigit store pour finish
     lead runs last lastPlace through worth worthBehind transferEncoding encodingNamed behindSpaces closed quoted unquoted typed named bareParameter
     parameter contentType contentTypeExt firstEncoding byType byExt byBoundary scanned dashBdry startsWithHelo isMailFrom secondLine isData upToEnd
-    closingAt mailFrom required rcptTo stlsAnswer octets octetsFollow numbered retrAnswer appendFollows isAppend dark trimmed braced fromBrace sizeOf
+    closingAt mailFrom required rcptTo stlsAnswer octets octetsFollow numbered retrAnswer appendFollows tag isAppend dark textEnd trimmed braced
+    isUtf8 size darkLead darkEnd isSpace characters behind onto character opened sequence lawful isTail isScalar octetsOf fromBrace sizeOf
     appendSize holdsColon afterMail literalBody rest plainMail boundaryFree begun onHead onText onLiteral onPreamble onOpened held whole contentLength
     onContent outermost byRest skip onBetween lastLine popped onSkipping onResting onHello given bySecond onSecond onUser onPassword onSender onSeeking
     byRecipient onRecipient onReply onStatus onCommand onOffered onClosing

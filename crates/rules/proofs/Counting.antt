@@ -16,9 +16,9 @@ use Rattle.events.specs.declared.Encoding.{Encoding}
 use Rattle.events.specs.declared.Event.{Event}
 use Rattle.events.specs.declared.Outcome.{Outcome}
 use Rattle.fields.specs.Common.{Known, unknown}
+use Rattle.fields.proofs.Texts.{append-none}
 use Rattle.fields.specs.Imap.{isAppend, holdsColon}
 use Rattle.fields.specs.Pop3.{stlsAnswer, retrAnswer}
-use Rattle.fields.specs.Runs.{lead}
 use Rattle.fields.specs.Smtp.{startsWithHelo, isMailFrom, secondLine, isData, mailFrom, rcptTo}
 use Rattle.fields.specs.declared.smtp.Address.{Address}
 use Rattle.fields.specs.declared.smtp.Address.the-variants.{Given, Missing}
@@ -208,8 +208,8 @@ delimiter-two b l g =
 
 -- ---- IMAP: a line of one byte is an LF, and no APPEND
 lone-line : (x : ℕ) (b : Bool) → eqb x 10 ≡ b → fetch aLine (x ∷ []) ≡ got (x ∷ []) [] → isAppend (clean (x ∷ [])) ≡ false
-unfolding fetch parted reach past firstPlace first holds clean dropEnd endsWith same startsWith isAppend lead
-lone-line x true e g = rw e
+unfolding fetch parted reach past firstPlace first holds clean dropEnd endsWith same startsWith
+lone-line x true e g = rw e append-none
 lone-line x false e g = absurd (let s : fetch aLine (x ∷ []) ≡ short = rw e in let z : _≡_ {A = ℕ} 0 1 = cc in omega arith)
 
 append-two : (l : List ℕ) → fetch aLine l ≡ got l [] → isAppend (clean l) ≡ true → 2 ≤ length l

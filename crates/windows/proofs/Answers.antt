@@ -7,12 +7,13 @@ use Rattle.events.specs.Events.{resultNumber}
 use Rattle.reading.specs.Text.{text}
 use Rattle.reading.specs.Bytes.{startsWith, same, endsWith, raised, first, firstPlace, holds, stands, found, contains}
 use Rattle.reading.specs.Reading.{clean, dropEnd, mayStand, delimits, past, reach, parted, fetch}
+use Rattle.utf8.specs.Utf8.{octetsOf, isScalar, isSpace, isTail, lawful, sequence, opened, character, onto, behind, characters, size, isUtf8, darkLead, darkEnd}
 use Rattle.fields.specs.Runs.{runs, lead, last, lastPlace, through, worthBehind, worth}
 use Rattle.fields.specs.Common.{encodingNamed, behindSpaces, transferEncoding, closed, quoted, unquoted, typed, named, bareParameter, parameter, contentType, contentTypeExt}
 use Rattle.fields.specs.Common.{firstEncoding, byType, byExt, byBoundary, scanned, dashBdry}
 use Rattle.fields.specs.Smtp.{startsWithHelo, isMailFrom, secondLine, isData, upToEnd, closing as closingAt, mailFrom, required, rcptTo}
 use Rattle.fields.specs.Pop3.{stlsAnswer, octets, octetsFollow, numbered, retrAnswer}
-use Rattle.fields.specs.Imap.{appendFollows, isAppend, dark, trimmed, braced, fromBrace, sizeOf, appendSize, holdsColon}
+use Rattle.fields.specs.Imap.{appendFollows, tag, isAppend, dark, textEnd, trimmed, braced, fromBrace, sizeOf, appendSize, holdsColon}
 use Rattle.rules.specs.Machine.{turn, go, run}
 use Rattle.rules.specs.Phases.{wants, need}
 use Rattle.rules.specs.Mail.{afterMail, literalBody, rest, plainMail, boundaryFree, begun, onHead, onText, held, whole, onLiteral}
@@ -113,6 +114,10 @@ sessions =
     on 8 Pop3Server (text "+OK 1 octets\r\nContent-Transfer-Encoding:\r\n" ∷ text "Content-Transfer-Encoding: base64\r\n\r\nx\r\n" ∷ [])
     ((42, 1, 42, 2) ∷ (40, 1, 82, 6) ∷ [])
     ((8, 0, 12, 0) ∷ (1, 14, 28, 0) ∷ (1, 42, 35, 0) ∷ (1, 77, 2, 0) ∷ (2, 79, 0, 0) ∷ (3, 79, 3, 5) ∷ []) ∷
+    -- a window that ends inside a no-break space: the line is read whole, and the space counts
+    on 8 ImapClient ((text "a APPEND{4}" ++ (0xc2 ∷ [])) ∷ (0xa0 ∷ text "\n:\n\r") ∷ text "\n\r\n" ∷ [])
+    ((0, 1, 0, 0) ∷ (16, 1, 16, 2) ∷ (4, 1, 20, 5) ∷ [])
+    ((7, 0, 13, 0) ∷ (1, 14, 2, 0) ∷ (1, 16, 2, 0) ∷ (2, 18, 0, 0) ∷ (6, 18, 0, 0) ∷ []) ∷
     -- the table is full: 10, and nothing is taken
     on 1 SmtpServer (text "220 a\r\n220 b\r\n" ∷ text "220 c\r\n" ∷ [])
     ((0, 10, 7, 1) ∷ (0, 10, 7, 1) ∷ [])
@@ -163,11 +168,12 @@ unfolding trace shows taken window refused lands landed keeps over said enter en
     delimits mayStand startsWith same endsWith raised clean dropEnd upperOf isLetter isUpper isWhite isBlank isPopWhite isDigit store pour
     lead runs last lastPlace through worth worthBehind transferEncoding encodingNamed behindSpaces closed quoted unquoted typed named bareParameter
     parameter contentType contentTypeExt firstEncoding byType byExt byBoundary scanned dashBdry startsWithHelo isMailFrom secondLine isData upToEnd
-    closingAt mailFrom required rcptTo stlsAnswer octets octetsFollow numbered retrAnswer appendFollows isAppend dark trimmed braced fromBrace sizeOf
+    closingAt mailFrom required rcptTo stlsAnswer octets octetsFollow numbered retrAnswer appendFollows tag isAppend dark textEnd trimmed braced
+    isUtf8 size darkLead darkEnd isSpace characters behind onto character opened sequence lawful isTail isScalar octetsOf fromBrace sizeOf
     appendSize holdsColon afterMail literalBody rest plainMail boundaryFree begun onHead onText onLiteral onPreamble onOpened held whole contentLength
     onContent outermost byRest skip onBetween lastLine popped onSkipping onResting onHello given bySecond onSecond onUser onPassword onSender onSeeking
     byRecipient onRecipient onReply onStatus onCommand onOffered onClosing
-both = ((refl, (refl, (refl, (refl, (refl, (refl, (refl, (refl, (refl, (refl, (refl, tt))))))))))), (refl, (refl, (refl, (refl, tt)))))
+both = ((refl, (refl, (refl, (refl, (refl, (refl, (refl, (refl, (refl, (refl, (refl, (refl, tt)))))))))))), (refl, (refl, (refl, (refl, tt)))))
 
 pub computed : Holds sessions
 computed = both .0
