@@ -27,7 +27,6 @@ impl Both {
             _ if rust == reading::answer(case, Wrong::Nothing).as_rust() => None,
             Answer::Unjudged(why) if why == NO_TEXT => None,
             Answer::Unjudged(why) => Some(why.clone()),
-            _ if rust == reading::answer(case, Wrong::WideWhite).as_rust() => Some("white space above 127".to_string()),
             _ => Some("another answer".to_string()),
         }
     }

@@ -40,7 +40,7 @@ impl Cut {
         let mut case = generator.case(number);
         if number % 4 == 3 || case.entry == b'D' {
             case = special::case(&mut rng);
-            if generator.kind == Kind::AnyByte {
+            if matches!(generator.kind, Kind::AnyByte | Kind::WideImap) {
                 high_bytes(&mut rng, &mut case.bytes);
             }
         }

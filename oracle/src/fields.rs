@@ -1,5 +1,6 @@
 //! What a line says, by document 01's sections "Sessions" and "Mail". `wrong` bends one rule.
 
+use crate::utf8::{Character, characters};
 use crate::wrong::Wrong;
 
 pub fn white(b: u8) -> bool {
@@ -153,13 +154,23 @@ fn octets(line: &[u8], wrong: Wrong) -> Option<()> {
 }
 
 pub fn is_append(line: &[u8], wrong: Wrong) -> bool {
-    let in_tag = |b| if wrong == Wrong::TagVertical { !blank(b) } else { !white(b) };
-    let tag = match wide(line, wrong) {
-        Some(text) => text.find(char::is_whitespace).unwrap_or(line.len()),
-        None => count(line, in_tag),
+    let in_tag = |b| match wrong {
+        Wrong::TagVertical => !blank(b),
+        _ => !white_byte(b, wrong),
+    };
+    let text = text(line, wrong);
+    let tag = match &text {
+        Some(text) if wrong != Wrong::TagNarrow => text.iter().find(|c| c.is_white(wrong)).map_or(line.len(), |c| c.at),
+        _ => count(line, in_tag),
     };
     let rest = &line[tag..];
-    let blanks = count(rest, |b| blank(b) && (b != 9 || wrong != Wrong::BlankSpace));
+    let blanks = match &text {
+        Some(text) if wrong == Wrong::BlanksWide => {
+            let mut behind = text.iter().skip_while(|c| c.at < tag);
+            behind.find(|c| !blank_character(c, wrong)).map_or(rest.len(), |c| c.at - tag)
+        }
+        _ => count(rest, |b| blank(b) && (b != 9 || wrong != Wrong::BlankSpace)),
+    };
     let rest = &rest[blanks..];
     let tagged = tag > 0 || wrong == Wrong::TagEmpty;
     let spaced = blanks == 1 || (blanks > 1 && wrong != Wrong::BlankOne);
@@ -167,21 +178,29 @@ pub fn is_append(line: &[u8], wrong: Wrong) -> bool {
     tagged && spaced && begins(rest, b"APPEND", wrong == Wrong::AppendCase) && behind
 }
 
-/// The line as text, if white space above 127 is to count in it.
-fn wide(line: &[u8], wrong: Wrong) -> Option<&str> {
-    if wrong == Wrong::WideWhite { std::str::from_utf8(line).ok() } else { None }
+/// Document 02, W8: the line's characters, where it has some above 127 and is UTF-8.
+fn text(line: &[u8], wrong: Wrong) -> Option<Vec<Character>> {
+    if line.is_ascii() { None } else { characters(line, wrong) }
+}
+
+fn white_byte(b: u8, wrong: Wrong) -> bool {
+    white(b) || (wrong == Wrong::LatinWhite && matches!(b, 133 | 160))
+}
+
+fn blank_character(c: &Character, wrong: Wrong) -> bool {
+    if c.number > 127 { c.is_white(wrong) } else { blank(c.number as u8) }
 }
 
 fn without_trail(line: &[u8], wrong: Wrong) -> &[u8] {
-    if let Some(text) = wide(line, wrong) {
-        return text.trim_end().as_bytes();
-    }
     let trail = |b: u8| match wrong {
         Wrong::TrailKept => false,
         Wrong::TrailBlank => blank(b),
-        _ => white(b),
+        _ => white_byte(b, wrong),
     };
-    let end = line.iter().rposition(|&b| !trail(b)).map_or(0, |last| last + 1);
+    let end = match text(line, wrong) {
+        Some(text) if wrong != Wrong::TrailNarrow => text.iter().rfind(|c| !c.is_white(wrong)).map_or(0, |c| c.end),
+        _ => line.iter().rposition(|&b| !trail(b)).map_or(0, |last| last + 1),
+    };
     &line[..end]
 }
 

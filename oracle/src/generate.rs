@@ -4,6 +4,7 @@
 use crate::case::{Case, ENOUGH, Sides};
 use crate::grammar::Builder;
 use crate::rng::Rng;
+use crate::wide;
 
 #[derive(Clone, Copy)]
 pub struct Generator {
@@ -15,6 +16,8 @@ pub struct Generator {
 pub enum Kind {
     Ascii,
     AnyByte,
+    /// IMAP sessions with characters above 127.
+    WideImap,
     /// Every run of tokens behind each beginning, shortest first.
     Short,
 }
@@ -26,6 +29,7 @@ impl Generator {
         }
         let mut rng = Rng::new(self.seed, number);
         let mut case = match rng.below(20) {
+            _ if self.kind == Kind::WideImap => wide::case(&mut rng),
             0..=1 => direction(&mut rng, self.kind),
             2..=4 => soup(&mut rng),
             _ => session(&mut rng),

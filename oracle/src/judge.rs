@@ -34,6 +34,9 @@ fn last_panic() -> String {
 /// Why a session with bytes above 127 may go unjudged.
 pub const NO_TEXT: &str = "no UTF-8";
 
+/// The panic that a skipped line above 127 brings about.
+pub const OFF_BOUNDARY: &str = "panic in common.rs: off a character boundary";
+
 /// The one panic document 01 knows: the literal is below its header's length.
 const KNOWN_PANIC: &str = "panic in imap.rs: attempt to subtract with overflow";
 

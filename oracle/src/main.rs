@@ -28,6 +28,8 @@ mod special;
 mod stored;
 mod stream;
 mod trace;
+mod utf8;
+mod wide;
 mod windows;
 mod windows_compare;
 mod windows_forgets;
@@ -51,8 +53,9 @@ const USAGE: &str = "usage:
   oracle batch FILE [--second]                                     listings of a batch file; by the second reading
   oracle batch --windows FILE                                      each window's answer of a file of cut sessions
   oracle bench ENTRY FILE [--plain]                                times one large session
-  oracle race LIBRARY                                              the proved library's speed beside the Rust's
+  oracle race LIBRARY [WORD]                                       the proved library's speed beside the Rust's; of inputs whose name holds the word
   oracle generate CASES OUT                                        a batch file of made cases
+  oracle judged FILE OUT                                           the cases of a batch file that the Rust can be asked
   oracle generate --cuts CASES OUT                                 a file of made sessions cut into windows
   oracle generate --cuts --limit OUT                               such a file of six sessions around the limit, 100 MB
   oracle compare CASES                                             the oracle against the second reading
@@ -64,10 +67,10 @@ const USAGE: &str = "usage:
   oracle check FILE                                                replays a file with answers
   oracle show FILE                                                 a file with answers as text
   oracle selftest                                                  document 01's examples, the findings, docs/DIFFERENCES.md, and W2 by hand
-CASES: [--seed N] [--count N] [--first N, for generate, compare and windows] [--any-byte | --short]";
+CASES: [--seed N] [--count N] [--first N, for generate, compare and windows] [--any-byte | --imap | --short]";
 
-const FLAGS: [&str; 9] = [
-    "--plain", "--no-overlays", "--any-length", "--any-byte", "--short", "--second", "--windows", "--cuts", "--limit",
+const FLAGS: [&str; 10] = [
+    "--plain", "--no-overlays", "--any-length", "--any-byte", "--imap", "--short", "--second", "--windows", "--cuts", "--limit",
 ];
 
 /// The words of the command line: flags, flags with a number, and the rest.
@@ -103,11 +106,8 @@ impl Words {
     }
 
     fn generator(&self) -> Generator {
-        let kind = match (self.has("--any-byte"), self.has("--short")) {
-            (true, _) => Kind::AnyByte,
-            (_, true) => Kind::Short,
-            _ => Kind::Ascii,
-        };
+        let kinds = [("--any-byte", Kind::AnyByte), ("--imap", Kind::WideImap), ("--short", Kind::Short)];
+        let kind = kinds.iter().find(|(flag, _)| self.has(flag)).map_or(Kind::Ascii, |(_, kind)| *kind);
         Generator { seed: self.number("--seed").unwrap_or(1), kind }
     }
 
@@ -129,10 +129,12 @@ fn run(words: &Words) -> Result<bool, String> {
         ["batch", file] if words.has("--windows") => list::batch_windows(file),
         ["batch", file] => list::batch(file, words.has("--second")),
         ["bench", entry, file] => list::bench(entry, file, words.has("--plain")),
-        ["race", library] => race::run(library),
+        ["race", library] => race::run(library, ""),
+        ["race", library, word] => race::run(library, word),
         ["generate", out] if words.has("--limit") => stored::generate_long(out),
         ["generate", out] if words.has("--cuts") => stored::generate_cuts(words.generator(), words.numbers(), out),
         ["generate", out] => stored::generate(words.generator(), words.numbers(), out),
+        ["judged", file, out] => stored::judged(file, out),
         ["compare"] => {
             let generator = words.generator();
             Ok(compare::run(words.numbers().map(|number| generator.case(number))))

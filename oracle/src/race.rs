@@ -4,6 +4,8 @@ use crate::case::{Answer, Event};
 use crate::judge::SwiftJudge;
 use crate::race_inputs::{Input, Windows, inputs};
 use crate::race_library::{INCOMPLETE, LONG_BOUNDARY, Library};
+use crate::reading;
+use crate::wrong::Wrong;
 use std::mem::take;
 use std::time::{Duration, Instant};
 
@@ -57,6 +59,13 @@ impl Timed {
         }
     }
 
+    /// By the second reading, which is not timed.
+    fn read(input: &Input) -> Timed {
+        let told = reading::session(input.entry, &input.bytes, input.bytes.len(), Wrong::Nothing);
+        let answer = [told.result as u64, told.place as u64, told.events.len() as u64];
+        Timed { answer, events: told.events.concat(), time: Duration::ZERO }
+    }
+
     fn rust(judge: &SwiftJudge, input: &Input) -> Timed {
         let mut kept: Vec<Event> = Vec::new();
         let mut answer = [0; 3];
@@ -85,7 +94,7 @@ impl Timed {
     }
 }
 
-/// An input, listed by the Rust and in one call alike, and the table that it is listed into.
+/// An input, listed in one call as by the Rust, or where that cannot be asked as by the second reading, and the table that it is listed into.
 struct Raced<'a> {
     library: &'a Library,
     input: &'a Input,
@@ -97,7 +106,7 @@ struct Raced<'a> {
 impl<'a> Raced<'a> {
     fn new(library: &'a Library, judge: &SwiftJudge, input: &'a Input) -> Result<Raced<'a>, String> {
         let mut table = vec![0; 4 * input.bytes.len()];
-        let rust = Timed::rust(judge, input);
+        let rust = if input.text { Timed::rust(judge, input) } else { Timed::read(input) };
         let call = Timed::table(&mut table, |table| library.dissect(input.entry, &input.bytes, table));
         if !call.lists_as(&rust) {
             return Err(format!("{}: the listings differ", input.name));
@@ -127,7 +136,10 @@ impl<'a> Raced<'a> {
     fn print(&mut self) -> Result<(), String> {
         let input = self.input;
         let ours = format!("{} | {} | {:.0}", input.bytes.len(), self.call.answer[2], self.call.speed(input));
-        let theirs = format!("{:.0} | {:.2}", self.rust.speed(input), self.call.ratio(&self.rust));
+        let theirs = match input.text {
+            true => format!("{:.0} | {:.2}", self.rust.speed(input), self.call.ratio(&self.rust)),
+            false => "not asked | -".to_string(),
+        };
         let mut row = |name: &str, grow: bool| -> Result<(), String> {
             let (large, small) = (self.cells(LARGE, grow)?, self.cells(SMALL, grow)?);
             println!("| {name} | {ours} | {large} | {small} | {theirs} |");
@@ -168,15 +180,19 @@ fn sizes(library: &Library, judge: &SwiftJudge) -> Result<[String; 2], String> {
     Ok(rows)
 }
 
-pub fn run(path: &str) -> Result<bool, String> {
+/// All inputs, or those whose name holds a word, and these at one size only.
+pub fn run(path: &str, word: &str) -> Result<bool, String> {
     let library = Library::open(path)?;
     let judge = SwiftJudge::for_ascii();
     println!(
         "| input | bytes | events | one call, MB/s | windows of 64 KiB, MB/s | cost | windows of 1,460, MB/s | cost | the Rust, MB/s | ratio |"
     );
     println!("|---|---|---|---|---|---|---|---|---|---|");
-    for input in inputs(16 * MB) {
-        Raced::new(&library, &judge, &input)?.print()?;
+    for input in inputs(16 * MB).iter().filter(|input| input.name.contains(word)) {
+        Raced::new(&library, &judge, input)?.print()?;
+    }
+    if !word.is_empty() {
+        return Ok(true);
     }
     for (how, rows) in ["one call", "windows of 1,460"].iter().zip(sizes(&library, &judge)?) {
         println!(

@@ -15,6 +15,8 @@ pub struct Input {
     pub entry: u8,
     pub bytes: Vec<u8>,
     pub windows: Windows,
+    /// Every line is UTF-8, so that the Rust can be asked.
+    pub text: bool,
 }
 
 const ENVELOPE: &str = "EHLO a\r\nMAIL FROM: <b@c>\r\nRCPT TO: <d@e>\r\nDATA\r\n";
@@ -73,23 +75,40 @@ fn literal(size: usize) -> Vec<u8> {
     bytes
 }
 
-/// Document 01's kinds of mail, then hostile ones, of about this size each.
+/// Append lines of so many units each behind the size; what follows is no mail.
+fn appends(unit: &str, count: usize, size: usize) -> Vec<u8> {
+    filled("", format!("a APPEND x {{9}}{}\r\nb NOOP\r\n", unit.repeat(count)).as_bytes(), "", size)
+}
+
+/// What a client says on its way to a folder and out of it.
+const COMMANDS: &[u8] = b"a1 CAPABILITY\r\na2 SELECT INBOX\r\na3 FETCH 1:* (UID FLAGS)\r\na4 UID FETCH 7 BODY.PEEK[]\r\n\
+    a5 STORE 3 +FLAGS (\\Deleted)\r\na6 EXPUNGE\r\na7 NOOP\r\na8 CLOSE\r\n";
+
+const APPENDED: &[u8] = b"a1 NOOP\r\na2 APPEND Sent (\\Seen) {32}\r\nTo: c@d\r\nSubject: g\r\n\r\nRegards\r\n\r\n";
+
+/// Document 01's kinds of mail and IMAP's commands, then hostile ones, of about this size each.
 pub fn inputs(size: usize) -> Vec<Input> {
     let long = "q".repeat(1000);
     let near = |length: usize| [b"\r\n--".to_vec(), vec![b'q'; length], b"x".to_vec()].concat();
-    let named = |name, entry, bytes| Input { name, entry, bytes, windows: Windows::Same };
+    let named = |name, entry, bytes| Input { name, entry, bytes, windows: Windows::Same, text: true };
     let met = |windows, input| Input { windows, ..input };
+    let mut tails = appends("\u{2003}", 333_000, size);
+    tails.iter_mut().filter(|b| **b > 127).for_each(|b| *b = 0x80);
     vec![
         named("SMTP body, 76 columns", b'S', body(&line(TEXT, 76), size)),
         named("one base64 part", b'S', part("frontier", "Content-Transfer-Encoding: base64\r\n", &line(BASE64, 76), size)),
         named("many small POP3 mails", b'P', filled("", b"+OK 120 octets\r\nFrom: a@b\r\nTo: c@d\r\nSubject: gradients\r\n\r\nSee the office.\r\nRegards\r\n.\r\n", "", size)),
         named("an IMAP literal", b'I', literal(size)),
         named("multiparts four deep", b'P', filled("", &nested(), "", size)),
+        named("short IMAP commands", b'I', filled("", COMMANDS, "", size)),
+        named("small IMAP mails", b'I', filled("", APPENDED, "", size)),
         named("short lines", b'S', body(b"a\r\n", size)),
         named("long lines", b'S', body(&line(TEXT, 10_000), size)),
         named("near delimiters", b'S', part("qqqqqqqqqqqqqqqqqqqq", "", &near(19), size)),
         met(Windows::Refused, named("a long boundary", b'S', part(&long, "", &near(999), size))),
         met(Windows::Growing, named("lines of a megabyte", b'S', body(&line(TEXT, 1_000_000), size))),
         met(Windows::Growing, named("hyphens only", b'S', part("q", "", &[b'-'; 64], size))),
+        met(Windows::Growing, named("appends, a megabyte of U+2003", b'I', appends("\u{2003}", 333_000, size))),
+        Input { text: false, ..met(Windows::Growing, named("appends, a megabyte of lone octets", b'I', tails)) },
     ]
 }

@@ -1,11 +1,12 @@
-//! Document 01's "Sessions to check", W4's numbers, W1's encodings, and the findings of docs/DIFFERENCES.md, as cases with
-//! answers; W2's sessions by windows stand beside.
+//! Document 01's "Sessions to check", W4's numbers, W1's encodings, W8's white space, and the findings of docs/DIFFERENCES.md,
+//! as cases with answers; W2's sessions by windows stand beside.
 
 use crate::case::{Answer, Case, ENOUGH, Sides, readable};
 use crate::differences;
-use crate::judge::{PlainJudge, SwiftJudge};
+use crate::judge::{NO_TEXT, PlainJudge, SwiftJudge};
 use crate::packet::{Packet, Plain, Swift};
 use crate::reading;
+use crate::utf8;
 use crate::windows_selftest;
 use crate::wrong::Wrong;
 use memchr::memmem::Finder;
@@ -167,8 +168,72 @@ fn encodings() -> Vec<Documented> {
     ]
 }
 
+/// An append line and a mail of eleven bytes: what it is by the size, none where the line is no append.
+fn offered(line: &[u8], size: Option<u64>) -> Documented {
+    let n = line.len();
+    let (head, blank, body, end) = (n + 2, n + 8, n + 10, n + 15);
+    let listing = match size {
+        None => format!("7 {head} 4 0\n7 {blank} 0 0\n7 {body} 3 0\n1 {end} 4\n"),
+        Some(11) => format!("1 {head} 6 0\n1 {blank} 2 0\n2 {body} 0 0\n4 {body} 3 0\n6 {} 0 0\n1 {end} 6\n", n + 13),
+        Some(_) => format!("1 {head} 6 0\n1 {blank} 2 0\n7 {body} 3\n"),
+    };
+    let case = Case::session(b'I', &[line, b"\r\nT: u\r\n\r\nhey\r\n"].concat());
+    Documented { case, listing: format!("7 0 {n} 0\n{listing}") }
+}
+
+/// Document 02, W8: each white character behind the brace, in a tag and alone as one; characters beside them; lines that are no UTF-8.
+fn white_space() -> Vec<Documented> {
+    let white = [0x85, 0xa0, 0x1680].into_iter().chain(0x2000..=0x200a).chain([0x2028, 0x2029, 0x202f, 0x205f, 0x3000]);
+    let dark = [0x1c, 0x1f, 0x84, 0x180e, 0x200b, 0x2060, 0xfeff, 0x1_f600, 0x10_ffff];
+    let text = |number: u32| char::from_u32(number).expect("a character").to_string();
+    let mut all = Vec::new();
+    for (number, is_white) in white.map(|c| (c, true)).chain(dark.map(|c| (c, false))) {
+        let c = text(number);
+        all.push(offered(format!("a APPEND {{11}}{c}").as_bytes(), Some(if is_white { 11 } else { 0 })));
+        all.push(offered(format!("{c} APPEND {{11}}").as_bytes(), if is_white { None } else { Some(11) }));
+    }
+    all.extend([
+        offered("a\u{85}b APPEND {11}".as_bytes(), None),
+        offered("a\u{a0}APPEND {11}".as_bytes(), None),
+        offered("a \u{a0}APPEND {11}".as_bytes(), None),
+        offered("\u{e9} APPEND {11} \u{3000}\t\u{2003}\u{b}".as_bytes(), Some(11)),
+        offered("a APPEND {3} \u{2003} {11}\u{2003}".as_bytes(), Some(11)),
+        offered("a APPEND {11}\u{e9}\u{a0}".as_bytes(), Some(0)),
+        offered(b"a APPEND {11}\xa0", Some(0)),
+        offered(b"a APPEND {11}\x85", Some(0)),
+        offered(b"\x85 APPEND {11}", Some(11)),
+        offered(b"a APPEND {11}\xc0\xa0", Some(0)),
+        offered(b"a APPEND {11}\xe0\x82\xa0", Some(0)),
+        offered(b"a APPEND \x80 {11}\xc2\xa0", Some(0)),
+        offered(b"\xc2\x85 APPEND \x80 {11}", Some(11)),
+        offered(b"a APPEND \xe0\x80\xa0 {11}\xc2\xa0", Some(0)),
+        offered(b"a APPEND \xf0\x80\x80\xa0 {11}\xc2\xa0", Some(0)),
+        offered(b"a APPEND \xed\xa0\x80 {11}\xc2\xa0", Some(0)),
+        offered(b"a APPEND \xed\x9f\xbf {11}\xc2\xa0", Some(11)),
+        offered(b"a APPEND \xf4\x90\x80\x80 {11}\xc2\xa0", Some(0)),
+        offered(b"a APPEND \xf4\x8f\xbf\xbf {11}\xc2\xa0", Some(11)),
+        offered(b"a APPEND \xf8\x88\x80\x80\x80 {11}\xc2\xa0", Some(0)),
+        offered(b"a APPEND {11}\xc2\xa0\xe2\x80", Some(0)),
+    ]);
+    all
+}
+
+/// The same, too long for the stored list: lines of a megabyte of white space, of tails, of characters that break off.
+fn million_characters() -> Vec<Documented> {
+    let line = |tail: &[u8], count: usize| [b"a APPEND {11}".to_vec(), tail.repeat(count)].concat();
+    let tag = |unit: &[u8]| [unit.repeat(350_000), b" APPEND {11}".to_vec()].concat();
+    vec![
+        offered(&line(b"\xe2\x80\x83", 350_000), Some(11)),
+        offered(&line(b"\x80", 1_000_000), Some(0)),
+        offered(&line(b"\xe2\x80", 500_000), Some(0)),
+        offered(&tag(b"\xe2\x80\x83"), None),
+        offered(&tag(b"\xe2\x80\x8b"), Some(11)),
+        offered(&tag(b"\xe2\x80"), Some(11)),
+    ]
+}
+
 pub fn documented_cases() -> Vec<Case> {
-    let all = all_documented().into_iter().chain(octet_numbers()).chain(encodings());
+    let all = all_documented().into_iter().chain(octet_numbers()).chain(encodings()).chain(white_space());
     all.map(|documented| documented.case).collect()
 }
 
@@ -197,11 +262,6 @@ fn findings() -> Vec<Finding> {
     let pop3 = format!("+OK 1 octets\n{CLOSED}--\u{e9}\n");
     let imap = format!("a APPEND\n{CLOSED}--\u{e9}\n");
     vec![
-        finding(
-            b'I', b"a APPEND{4}\xc2\xa0\n:\n\r\n", "7 0 13 0\n1 14 2 0\n1 16 2 0\n7 18 3\n",
-            "7 0 13 0\n1 14 2 0\n1 16 2 0\n2 18 0 0\n6 18 0 0\n1 18 5\n",
-        ),
-        finding(b'I', b"\xc2\x85 APPEND\n:\n", "7 0 9 0\n1 10 2 0\n1 12 2\n", "7 0 9 0\n7 10 1 0\n1 12 2\n"),
         finding(b'S', smtp.as_bytes(), "1 21 25 0\n1 46 2 0\n1 52 2 0\n2 54 0 0\n6 54 0 0\n1 63 5\n", OFF_BOUNDARY),
         finding(
             b'P',
@@ -220,6 +280,12 @@ fn findings() -> Vec<Finding> {
         greeting("\u{212a}aA    x".as_bytes(), "0\n", "1\n"),
         greeting("a \u{c9}     x".as_bytes(), "0\n", "1\n"),
         finding(b's', b"\x80\n", "8 0 1 0\n1 2 1\n", "unjudged: no UTF-8\n"),
+        finding(
+            b'I',
+            b"a APPEND \x80{4}\xc2\xa0\n:\n\r\n",
+            "7 0 15 0\n1 16 2 0\n1 18 2 0\n7 20 3\n",
+            "unjudged: no UTF-8\n",
+        ),
     ]
 }
 
@@ -244,6 +310,15 @@ impl Judges {
     fn ask_both(&mut self, case: &Case, document: &str) {
         let rust = reading::answer(case, Wrong::Nothing).as_rust().to_string();
         self.ask(case, &rust, document);
+    }
+
+    /// The same, where the Rust can be asked: every line is UTF-8.
+    fn ask_of_text(&mut self, case: &Case, document: &str) {
+        if case.bytes.split(|&b| b == b'\n').all(|line| std::str::from_utf8(line).is_ok()) {
+            self.ask_both(case, document);
+        } else {
+            self.ask(case, &format!("unjudged: {NO_TEXT}\n"), document);
+        }
     }
 
     fn ask(&mut self, case: &Case, rust: &str, document: &str) {
@@ -278,13 +353,6 @@ fn lower_case_is_safe() -> bool {
     above.flat_map(char::to_lowercase).all(|c| !matches!(c, 't' | 'l' | 's'))
 }
 
-/// The characters above 127 that docs/DIFFERENCES.md calls white space are all there are.
-fn white_space_is_known() -> bool {
-    let known =
-        |c: u32| matches!(c, 0x85 | 0xa0 | 0x1680 | 0x2000..=0x200a | 0x2028 | 0x2029 | 0x202f | 0x205f | 0x3000);
-    (128..=0x10ffff).all(|c| char::from_u32(c).is_none_or(|text| text.is_whitespace() == known(c)))
-}
-
 pub fn run() -> bool {
     let mut judges = Judges {
         swift: SwiftJudge::new(true),
@@ -294,6 +362,9 @@ pub fn run() -> bool {
     };
     for documented in all_documented().into_iter().chain(octet_numbers()).chain(million_digits()).chain(encodings()) {
         judges.ask_both(&documented.case, &documented.listing);
+    }
+    for documented in white_space().into_iter().chain(million_characters()) {
+        judges.ask_of_text(&documented.case, &documented.listing);
     }
     for finding in findings() {
         judges.ask(&finding.case, finding.rust, finding.document);
@@ -315,7 +386,7 @@ pub fn run() -> bool {
     let (windows, failed) = windows_selftest::run();
     judges.run += windows;
     judges.failed += failed;
-    let sound = delimiters::<Plain>() && delimiters::<Swift>() && lower_case_is_safe() && white_space_is_known();
+    let sound = delimiters::<Plain>() && delimiters::<Swift>() && lower_case_is_safe() && utf8::holds();
     println!(
         "{} checks, {} failed, {} inputs of docs/DIFFERENCES.md and {windows} sessions by windows among them; delimiters and characters {}",
         judges.run,

@@ -197,7 +197,7 @@ pub fn describe(cut: &Cut) -> String {
 
 /// The Rust judges ASCII; sessions with any byte go by the second reading.
 pub fn judge(kind: Kind) -> Option<SwiftJudge> {
-    (kind != Kind::AnyByte).then(|| SwiftJudge::new(true))
+    matches!(kind, Kind::Ascii | Kind::Short).then(|| SwiftJudge::new(true))
 }
 
 /// Runs the cases, prints counts by result and the first case that parts; gives whether none does.

@@ -13,7 +13,12 @@ struct Known {
 }
 
 fn known(entry: u8, windows: &[&str], printed: &str) -> Known {
-    let case = Case { entry, slots: ENOUGH, bytes: windows.concat().into() };
+    let windows: Vec<&[u8]> = windows.iter().map(|window| window.as_bytes()).collect();
+    known_bytes(entry, &windows, printed)
+}
+
+fn known_bytes(entry: u8, windows: &[&[u8]], printed: &str) -> Known {
+    let case = Case { entry, slots: ENOUGH, bytes: windows.concat() };
     let lengths = windows.iter().map(|window| window.len()).collect();
     Known { cut: Cut::plain(case, lengths), printed: printed.to_string() }
 }
@@ -102,6 +107,12 @@ fn literals() -> Vec<Known> {
             "23 1 23 2\n0 1 23 2\n0 7 25 3\n0 7 25 3\n7 0 15 0\n1 17 6 0\n1 23 2 0\n7 25 3\n",
         ),
         // A line that is peeked at is not taken before it is whole; without a colon it is a command.
+        // A window that ends inside a no-break space: the line is read whole, and the space counts.
+        known_bytes(
+            b'I',
+            &[b"a APPEND{4}\xc2", b"\xa0\n:\n\r", b"\n\r\n"],
+            "0 1 0 0\n16 1 16 2\n4 1 20 5\n7 0 13 0\n1 14 2 0\n1 16 2 0\n2 18 0 0\n6 18 0 0\n1 20 5\n",
+        ),
         known(b'I', &["a APPEND {9}\r\nno", "\n"], "14 1 14 1\n3 1 17 2\n7 0 12 0\n7 14 2 0\n1 17 2\n"),
         // The literal's rest of 2 is skipped whole, before the next line is finished.
         known(

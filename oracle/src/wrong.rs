@@ -1,21 +1,24 @@
-//! Named wrong readings of document 01 (and of document 02's W1, the encoding 6), each with the entries it could show in.
+//! Named wrong readings of document 01 (and of document 02's W1, the encoding 6), each with the entries it could show in;
+//! behind them those of W8, which only bytes above 127 tell.
 
 macro_rules! wrongs {
-    ($($name:ident $entries:literal $text:literal)*) => {
+    ($($name:ident $entries:literal $text:literal)*; $($wide:ident $wide_text:literal)*) => {
         #[derive(Clone, Copy, PartialEq, Eq, Debug)]
         pub enum Wrong {
             /// The right reading.
             Nothing,
-            /// Right too, but for valid UTF-8 lines the append test and size count white space
-            /// above 127 as the Rust does. Tells findings apart.
-            WideWhite,
             /// Right too, but a boundary over 70 bytes refuses with 12, as document 02 has it for
             /// sessions by windows.
             LongRefuses,
-            $($name),*
+            $($name,)*
+            $($wide),*
         }
 
-        pub const WRONGS: &[(Wrong, &str, &str)] = &[$((Wrong::$name, $entries, $text)),*];
+        pub const WRONGS: &[(Wrong, &str, &str)] =
+            &[$((Wrong::$name, $entries, $text),)* $((Wrong::$wide, "I", $wide_text)),*];
+
+        /// The first of WRONGS that needs bytes above 127.
+        pub const FIRST_WIDE: usize = [$($text),*].len();
     };
 }
 
@@ -231,4 +234,25 @@ wrongs! {
     CommandNear "D" "the space must be in the first nine bytes"
     CommandLower "D" "a lower-case command counts"
     CommandPorts "D" "ports do not count"
+    ;
+    // White space above 127, all of them in IMAP's append test and size
+    TagNarrow "in a tag no character above 127 is white"
+    TrailNarrow "at the end no character above 127 is white"
+    NoNextLine "U+0085 is not white"
+    NoBreakDark "U+00A0 is not white"
+    NoOgham "U+1680 is not white"
+    NoQuads "U+2000 to U+200A are not white"
+    NoSeparators "U+2028 and U+2029 are not white"
+    NoNarrowBreak "U+202F is not white"
+    NoMathematical "U+205F is not white"
+    NoIdeographic "U+3000 is not white"
+    ZeroWidthWhite "U+200B is white"
+    VowelWhite "U+180E is white"
+    MarkWhite "U+FEFF is white"
+    BlanksWide "white space above 127 is a blank before APPEND"
+    LatinWhite "in a line that is no UTF-8 the bytes 133 and 160 are white"
+    PartlyText "in a line that is no UTF-8 the characters that are whole count"
+    Overlong "characters may take more octets than they need"
+    Surrogates "U+D800 to U+DFFF are characters"
+    PastLast "there are characters above U+10FFFF"
 }
