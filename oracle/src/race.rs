@@ -163,8 +163,9 @@ fn milliseconds(timed: &Timed) -> String {
 }
 
 /// Time against size: a row for each input in one call, and another by windows, which grow where they have to.
-fn sizes(library: &Library, judge: &SwiftJudge) -> Result<[String; 2], String> {
-    let sizes: Vec<Vec<Input>> = [1, 2, 4, 8, 16].iter().map(|n| inputs(n * MB)).collect();
+fn sizes(library: &Library, judge: &SwiftJudge, word: &str) -> Result<[String; 2], String> {
+    let named = |n: &usize| inputs(n * MB).into_iter().filter(|input| input.name.contains(word)).collect();
+    let sizes: Vec<Vec<Input>> = [1, 2, 4, 8, 16].iter().map(named).collect();
     let mut rows = [String::new(), String::new()];
     for kind in 0..sizes[0].len() {
         rows.iter_mut().for_each(|row| *row += &format!("| {} |", sizes[0][kind].name));
@@ -180,7 +181,7 @@ fn sizes(library: &Library, judge: &SwiftJudge) -> Result<[String; 2], String> {
     Ok(rows)
 }
 
-/// All inputs, or those whose name holds a word, and these at one size only.
+/// All inputs, or those whose name holds a word.
 pub fn run(path: &str, word: &str) -> Result<bool, String> {
     let library = Library::open(path)?;
     let judge = SwiftJudge::for_ascii();
@@ -191,10 +192,7 @@ pub fn run(path: &str, word: &str) -> Result<bool, String> {
     for input in inputs(16 * MB).iter().filter(|input| input.name.contains(word)) {
         Raced::new(&library, &judge, input)?.print()?;
     }
-    if !word.is_empty() {
-        return Ok(true);
-    }
-    for (how, rows) in ["one call", "windows of 1,460"].iter().zip(sizes(&library, &judge)?) {
+    for (how, rows) in ["one call", "windows of 1,460"].iter().zip(sizes(&library, &judge, word)?) {
         println!(
             "\n| {how}, ms for | 1 MB | 2 MB | 4 MB | 8 MB | 16 MB |\n|---|---|---|---|---|---|\n{}",
             rows.trim_end()

@@ -75,9 +75,9 @@ fn literal(size: usize) -> Vec<u8> {
     bytes
 }
 
-/// Append lines of so many units each behind the size; what follows is no mail.
-fn appends(unit: &str, count: usize, size: usize) -> Vec<u8> {
-    filled("", format!("a APPEND x {{9}}{}\r\nb NOOP\r\n", unit.repeat(count)).as_bytes(), "", size)
+/// One append line, filled up behind its size; what follows is no mail.
+fn append_line(unit: &[u8], size: usize) -> Vec<u8> {
+    filled("a APPEND x {9}", unit, "\r\nb NOOP\r\n", size)
 }
 
 /// What a client says on its way to a folder and out of it.
@@ -92,8 +92,6 @@ pub fn inputs(size: usize) -> Vec<Input> {
     let near = |length: usize| [b"\r\n--".to_vec(), vec![b'q'; length], b"x".to_vec()].concat();
     let named = |name, entry, bytes| Input { name, entry, bytes, windows: Windows::Same, text: true };
     let met = |windows, input| Input { windows, ..input };
-    let mut tails = appends("\u{2003}", 333_000, size);
-    tails.iter_mut().filter(|b| **b > 127).for_each(|b| *b = 0x80);
     vec![
         named("SMTP body, 76 columns", b'S', body(&line(TEXT, 76), size)),
         named("one base64 part", b'S', part("frontier", "Content-Transfer-Encoding: base64\r\n", &line(BASE64, 76), size)),
@@ -108,7 +106,7 @@ pub fn inputs(size: usize) -> Vec<Input> {
         met(Windows::Refused, named("a long boundary", b'S', part(&long, "", &near(999), size))),
         met(Windows::Growing, named("lines of a megabyte", b'S', body(&line(TEXT, 1_000_000), size))),
         met(Windows::Growing, named("hyphens only", b'S', part("q", "", &[b'-'; 64], size))),
-        met(Windows::Growing, named("appends, a megabyte of U+2003", b'I', appends("\u{2003}", 333_000, size))),
-        Input { text: false, ..met(Windows::Growing, named("appends, a megabyte of lone octets", b'I', tails)) },
+        met(Windows::Growing, named("an append line of U+2003", b'I', append_line("\u{2003}".as_bytes(), size))),
+        Input { text: false, ..met(Windows::Growing, named("an append line of lone octets", b'I', append_line(b"\x80", size))) },
     ]
 }
