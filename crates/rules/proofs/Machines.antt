@@ -71,8 +71,18 @@ module _ (State : Type 0) (read : State → List ℕ → Got) (react : State →
   unfolding turn
   run-got st at s p r e = run-turn st at s ∙ ap (Turn Run st at s) e
 
+  -- what holds of all bytes if it holds turn by turn
+  module _ (P : State → ℕ → List ℕ → Type 0) (turn : (st : State) (at : ℕ) (s : List ℕ) (g : Got) → read st s ≡ g
+      → ((su : State) (to : ℕ) (r : List ℕ) → length r < length s → P su to r) → P st at s) where
+    by-turns-upto : (n : ℕ) (st : State) (at : ℕ) (s : List ℕ) → length s < n → P st at s
+    by-turns-upto zero st at s h = absurd (omega arith)
+    by-turns-upto (suc n) st at s h = turn st at s (read st s) refl (λ su to r g. by-turns-upto n su to r (omega arith))
+
+    pub by-turns : (st : State) (at : ℕ) (s : List ℕ) → P st at s
+    by-turns st at s = by-turns-upto (suc (length s)) st at s (omega arith)
+
 -- ---- the sessions of document 01
-fetching : Reads State fetches
+pub fetching : Reads State fetches
 fetching = record { splits = λ st s p r e. got-splits (need st) s p r e; moves = λ st s p r e. got-moves (need st) s p r e }
 
 pub session-shorter : (st : State) (s p r : List ℕ) → fetch (need st) s ≡ got p r → length r < length s

@@ -29,15 +29,10 @@ module _ (State : Type 0) (read : State → List ℕ → Got) (react : State →
   shorter : (st : State) (s p r : List ℕ) → read st s ≡ got p r → length r < length s
   shorter = machine.shorter State read react law
 
-  -- what holds of a run, turn by turn
-  module _ (P : State → ℕ → List ℕ → Type 0) (turn : (st : State) (at : ℕ) (s : List ℕ) (g : Got) → read st s ≡ g
-      → ((su : State) (to : ℕ) (r : List ℕ) → length r < length s → P su to r) → P st at s) where
-    by-turns-upto : (n : ℕ) (st : State) (at : ℕ) (s : List ℕ) → length s < n → P st at s
-    by-turns-upto zero st at s h = absurd (omega arith)
-    by-turns-upto (suc n) st at s h = turn st at s (read st s) refl (λ su to r g. by-turns-upto n su to r (omega arith))
-
-    pub by-turns : (st : State) (at : ℕ) (s : List ℕ) → P st at s
-    by-turns st at s = by-turns-upto (suc (length s)) st at s (omega arith)
+  by-turns : (P : State → ℕ → List ℕ → Type 0)
+      → ((st : State) (at : ℕ) (s : List ℕ) (g : Got) → read st s ≡ g → ((su : State) (to : ℕ) (r : List ℕ) → length r < length s → P su to r) → P st at s)
+      → (st : State) (at : ℕ) (s : List ℕ) → P st at s
+  by-turns = machine.by-turns State read react law
 
   -- ---- a run of some bytes, and then of what it left with more behind it
   abbrev pub onward : Ran State → List ℕ → Ran State
