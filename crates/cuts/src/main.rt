@@ -12,6 +12,7 @@ use letters::Letter;
 use libc::STDIN_FILENO;
 use libc::STDOUT_FILENO;
 use rules::Entry;
+use rules::Settings;
 use tap::Session;
 use tap::Shown;
 
@@ -122,7 +123,7 @@ fn read_case(
     read_windows(head, &bytes[..length], lengths, table, out)
 }
 
-// The windows' lengths behind a record's bytes, and what the record comes to.
+// The settings and the windows' lengths behind a record's bytes, and what the record comes to.
 fn read_windows(
     head: Head,
     bytes: &[u8],
@@ -133,11 +134,15 @@ fn read_windows(
     requires { ⌜ 64 ≤ length (now out) ⌝ }
     ensures { λ r. ⌜ size r ≤ length (now (out .exit)) ⌝ }
 {
-    let mut number = [0u8; 4];
-    if !filled(&mut number) {
+    let mut numbers = [0u8; 8];
+    if !filled(&mut numbers) {
         return last(out, b"cut\n");
     }
-    let windows = cases::four(&number, 0) as usize;
+    let settings = cases::four(&numbers, 0);
+    if 1 < settings {
+        return last(out, b"broken\n");
+    }
+    let windows = cases::four(&numbers, 4) as usize;
     if lengths.len() / 4 < windows {
         return last(out, b"large\n");
     }
@@ -147,7 +152,19 @@ fn read_windows(
     }
     match letters::entry_of(head.letter) {
         Letter::Other => last(out, b"broken\n"),
-        Letter::Of(entry) => case(entry, head.slots, bytes, &lengths[..end], table, out),
+        Letter::Of(entry) => {
+            let strict = settings == 1;
+            let chosen = Settings { strict };
+            case(
+                entry,
+                chosen,
+                head.slots,
+                bytes,
+                &lengths[..end],
+                table,
+                out,
+            )
+        }
     }
 }
 
@@ -160,6 +177,7 @@ fn filled(buf: &mut [u8]) -> bool {
 
 fn case(
     entry: Entry,
+    settings: Settings,
     slots: usize,
     bytes: &[u8],
     lengths: &[u8],
@@ -179,7 +197,7 @@ fn case(
     }
     let t = &mut table[..lent];
     cases::fill(t);
-    match show_all(entry, bytes, lengths, t, out) {
+    match show_all(entry, settings, bytes, lengths, t, out) {
         Windows::Broken => last(out, b"broken\n"),
         Windows::Large => last(out, b"large\n"),
         Windows::Listed(text, a) => list(t, a, out, text),
@@ -211,6 +229,7 @@ fn list(table: &[u32], a: Answer, out: &mut [u8], text: usize) -> Text
 // Shows the session's windows one after another; the untaken bytes of each stand before the next.
 fn show_all(
     entry: Entry,
+    settings: Settings,
     bytes: &[u8],
     lengths: &[u8],
     table: &mut [u32],
@@ -218,7 +237,7 @@ fn show_all(
 ) -> Windows
     ensures { λ r. ⌜ textIn r (length (now (out .exit))) ⌝ }
 {
-    let mut session = tap::begin(entry);
+    let mut session = tap::begin(entry, settings);
     let mut answer = Answer {
         result: Outcome::Incomplete,
         place: 0,

@@ -7,7 +7,7 @@ use Rattle.events.specs.declared.Encoding.the-variants.{Unsaid, Bit7, Bi
 use Rattle.events.specs.declared.Event.{Event}
 use Rattle.events.specs.declared.Outcome.{Outcome}
 use Rattle.events.specs.declared.Outcome.the-variants.{Done, Incomplete, TooLong, NoHello, StartTls, NoRecipient, BadDelimiter, SmallLiteral, OpenLiteral, TooDeep, TableFull}
-use Rattle.events.specs.declared.Outcome.the-variants.{LongBoundary, NoSession}
+use Rattle.events.specs.declared.Outcome.the-variants.{BareLf, LongBoundary, NoSession}
 
 -- how many numbers an event is
 abbrev pub width : ℕ
@@ -80,5 +80,6 @@ resultNumber SmallLiteral = 7
 resultNumber OpenLiteral = 8
 resultNumber TooDeep = 9
 resultNumber TableFull = 10
-resultNumber LongBoundary = 12  -- windows only
+resultNumber BareLf = 11  -- this and the next: windows only
+resultNumber LongBoundary = 12
 resultNumber NoSession = 20  -- windows only, and ours: a record that is no session's

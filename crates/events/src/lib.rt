@@ -70,6 +70,7 @@ pub enum Outcome {
     OpenLiteral,
     TooDeep,
     TableFull,
+    BareLf,
     LongBoundary,
     NoSession,
 }
@@ -141,6 +142,7 @@ pub fn result_number(r: Outcome) -> u32
         Outcome::OpenLiteral => 8,
         Outcome::TooDeep => 9,
         Outcome::TableFull => 10,
+        Outcome::BareLf => 11,
         Outcome::LongBoundary => 12,
         Outcome::NoSession => 20,
     }

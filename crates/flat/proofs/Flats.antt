@@ -13,7 +13,8 @@ use Rattle.phases.specs.declared.Phase.{Phase}
 use Rattle.phases.specs.declared.Phase.the-variants as is
 use Rattle.rules.specs.declared.Mail.{Mail}
 use Rattle.rules.specs.declared.Mail.the-variants.{Smtp, Pop3, Imap}
-use Rattle.flat.specs.Flats.{flatOf, bit, isSet, rowIn, numbersOf, mailOf, encodingOf, outcomeOf, fieldsOf, phaseBy, phaseOf, takenOf, logOf}
+use Rattle.rules.specs.declared.Settings.{Settings}
+use Rattle.flat.specs.Flats.{flatOf, bit, isSet, rowIn, numbersOf, mailOf, encodingOf, outcomeOf, fieldsOf, phaseBy, phaseOf, takenOf, logOf, settingsOf}
 use Rattle.flat.specs.declared.Flat.{Flat}
 
 bit-again : (b : Bool) → isSet (bit b) ≡ b
@@ -43,15 +44,16 @@ outcome-again result.SmallLiteral = refl
 outcome-again result.OpenLiteral = refl
 outcome-again result.TooDeep = refl
 outcome-again result.TableFull = refl
+outcome-again result.BareLf = refl
 outcome-again result.LongBoundary = refl
 outcome-again result.NoSession = refl
 
 -- of any fields, whatever their phase
-fields-in : (m : Mail) (f : Flat) (at : ℕ) (log : Log) → f .mail ≡ m → fieldsOf (rowIn m f at log) ≡ f
+fields-in : (m : Mail) (set : Settings) (f : Flat) (at : ℕ) (log : Log) → f .mail ≡ m → fieldsOf (rowIn m set f at log) ≡ f
 unfolding mailOf
-fields-in Smtp f at log h = rw (encoding-again (f .encoding), bit-again (f .here), bit-again (f .supplied), outcome-again (f .result), ← h)
-fields-in Pop3 f at log h = rw (encoding-again (f .encoding), bit-again (f .here), bit-again (f .supplied), outcome-again (f .result), ← h)
-fields-in (Imap n b) f at log h = rw (encoding-again (f .encoding), bit-again (f .here), bit-again (f .supplied), outcome-again (f .result), ← h)
+fields-in Smtp set f at log h = rw (encoding-again (f .encoding), bit-again (f .here), bit-again (f .supplied), outcome-again (f .result), ← h)
+fields-in Pop3 set f at log h = rw (encoding-again (f .encoding), bit-again (f .here), bit-again (f .supplied), outcome-again (f .result), ← h)
+fields-in (Imap n b) set f at log h = rw (encoding-again (f .encoding), bit-again (f .here), bit-again (f .supplied), outcome-again (f .result), ← h)
 
 phase-again : (ph : Phase) → phaseBy (flatOf ph) ≡ ph
 unfolding phaseBy
@@ -78,21 +80,29 @@ phase-again (is.Skipping m i) = refl
 phase-again (is.Resting m i n) = refl
 phase-again (is.Over r p) = refl
 
-pub phase-stands : (ph : Phase) (at : ℕ) (log : Log) → phaseOf (numbersOf ph at log) ≡ ph
-phase-stands ph at log = ap phaseBy (fields-in (flatOf ph .mail) (flatOf ph) at log refl) ∙ phase-again ph
+pub phase-stands : (set : Settings) (ph : Phase) (at : ℕ) (log : Log) → phaseOf (numbersOf set ph at log) ≡ ph
+phase-stands set ph at log = ap phaseBy (fields-in (flatOf ph .mail) set (flatOf ph) at log refl) ∙ phase-again ph
 
-taken-in : (m : Mail) (f : Flat) (at : ℕ) (log : Log) → takenOf (rowIn m f at log) ≡ at
-taken-in Smtp f at log = refl
-taken-in Pop3 f at log = refl
-taken-in (Imap n b) f at log = refl
+taken-in : (m : Mail) (set : Settings) (f : Flat) (at : ℕ) (log : Log) → takenOf (rowIn m set f at log) ≡ at
+taken-in Smtp set f at log = refl
+taken-in Pop3 set f at log = refl
+taken-in (Imap n b) set f at log = refl
 
-pub taken-stands : (ph : Phase) (at : ℕ) (log : Log) → takenOf (numbersOf ph at log) ≡ at
-taken-stands ph at log = taken-in (flatOf ph .mail) (flatOf ph) at log
+pub taken-stands : (set : Settings) (ph : Phase) (at : ℕ) (log : Log) → takenOf (numbersOf set ph at log) ≡ at
+taken-stands set ph at log = taken-in (flatOf ph .mail) set (flatOf ph) at log
 
-log-in : (m : Mail) (f : Flat) (at : ℕ) (log : Log) → logOf (rowIn m f at log) ≡ log
-log-in Smtp f at log = refl
-log-in Pop3 f at log = refl
-log-in (Imap n b) f at log = refl
+log-in : (m : Mail) (set : Settings) (f : Flat) (at : ℕ) (log : Log) → logOf (rowIn m set f at log) ≡ log
+log-in Smtp set f at log = refl
+log-in Pop3 set f at log = refl
+log-in (Imap n b) set f at log = refl
 
-pub log-stands : (ph : Phase) (at : ℕ) (log : Log) → logOf (numbersOf ph at log) ≡ log
-log-stands ph at log = log-in (flatOf ph .mail) (flatOf ph) at log
+pub log-stands : (set : Settings) (ph : Phase) (at : ℕ) (log : Log) → logOf (numbersOf set ph at log) ≡ log
+log-stands set ph at log = log-in (flatOf ph .mail) set (flatOf ph) at log
+
+settings-in : (m : Mail) (set : Settings) (f : Flat) (at : ℕ) (log : Log) → settingsOf (rowIn m set f at log) ≡ set
+settings-in Smtp set f at log = rw (bit-again (set .strict))
+settings-in Pop3 set f at log = rw (bit-again (set .strict))
+settings-in (Imap n b) set f at log = rw (bit-again (set .strict))
+
+pub settings-stand : (set : Settings) (ph : Phase) (at : ℕ) (log : Log) → settingsOf (numbersOf set ph at log) ≡ set
+settings-stand set ph at log = settings-in (flatOf ph .mail) set (flatOf ph) at log

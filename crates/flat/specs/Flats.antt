@@ -16,6 +16,7 @@ use Rattle.phases.specs.declared.Phase.{Phase}
 use Rattle.phases.specs.declared.Phase.the-variants as is
 use Rattle.rules.specs.declared.Mail.{Mail}
 use Rattle.rules.specs.declared.Mail.the-variants.{Smtp, Pop3, Imap}
+use Rattle.rules.specs.declared.Settings.{Settings}
 use Rattle.flat.specs.declared.Flat.{Flat}
 
 -- ---- there
@@ -56,21 +57,21 @@ abbrev pub bit : Bool → ℕ
 bit b = cond b 1 0
 
 -- 24 numbers, of which the last are free
-abbrev pub rowBy : Flat → ℕ → ℕ → ℕ → ℕ → Log → List ℕ
-rowBy f kind size start at log =
+abbrev pub rowBy : Settings → Flat → ℕ → ℕ → ℕ → ℕ → Log → List ℕ
+rowBy set f kind size start at log =
     f .tag ∷ at ∷ log .count ∷ kind ∷ size ∷ start ∷ encodingNumber (f .encoding) ∷ f .level ∷ f .from ∷ f .left ∷ bit (f .here) ∷ bit (f .supplied)
-    ∷ resultNumber (f .result) ∷ replicate 11 0
+    ∷ resultNumber (f .result) ∷ bit (set .strict) ∷ replicate 10 0
 
-abbrev pub rowIn : Mail → Flat → ℕ → Log → List ℕ
-rowIn Smtp f at log = rowBy f 0 0 0 at log
-rowIn Pop3 f at log = rowBy f 1 0 0 at log
-rowIn (Imap size start) f at log = rowBy f 2 size start at log
+abbrev pub rowIn : Mail → Settings → Flat → ℕ → Log → List ℕ
+rowIn Smtp set f at log = rowBy set f 0 0 0 at log
+rowIn Pop3 set f at log = rowBy set f 1 0 0 at log
+rowIn (Imap size start) set f at log = rowBy set f 2 size start at log
 
-abbrev pub row : Flat → ℕ → Log → List ℕ
-row f at log = rowIn (f .mail) f at log
+abbrev pub row : Settings → Flat → ℕ → Log → List ℕ
+row set f at log = rowIn (f .mail) set f at log
 
-abbrev pub numbersOf : Phase → ℕ → Log → List ℕ
-numbersOf ph at log = row (flatOf ph) at log
+abbrev pub numbersOf : Settings → Phase → ℕ → Log → List ℕ
+numbersOf set ph at log = row set (flatOf ph) at log
 
 -- ---- and back: any numbers are some record's
 abbrev pub isSet : ℕ → Bool
@@ -102,8 +103,9 @@ outcomeOf n =
     (cond (eqb n 8) result.OpenLiteral
     (cond (eqb n 9) result.TooDeep
     (cond (eqb n 10) result.TableFull
+    (cond (eqb n 11) result.BareLf
     (cond (eqb n 12) result.LongBoundary
-    result.NoSession)))))))))))
+    result.NoSession))))))))))))
 
 abbrev pub fieldsOf : List ℕ → Flat
 fieldsOf ns =
@@ -143,9 +145,12 @@ phaseBy f =
 abbrev pub phaseOf : List ℕ → Phase
 phaseOf ns = phaseBy (fieldsOf ns)
 
--- behind the phase: how many bytes are taken, and what the writer knows
+-- behind the phase: how many bytes are taken, what the writer knows, and what was chosen at the start
 abbrev pub takenOf : List ℕ → ℕ
 takenOf ns = getD ns 1 0
 
 abbrev pub logOf : List ℕ → Log
 logOf ns = record { count = getD ns 2 0 }
+
+abbrev pub settingsOf : List ℕ → Settings
+settingsOf ns = record { strict = isSet (getD ns 13 0) }

@@ -1,13 +1,14 @@
 // A session's record as numbers, for callers that know no enum: there and back.
 ghost use mathlib.Core.Path.{_≡_};
 ghost use mathlib.Core.Bool.{false};
-ghost use Rattle.flat.specs.Flats.{flat, plain, flatOf, numbersOf, row, rowBy, bit, mailOf, encodingOf, outcomeOf, fieldsOf, heardOf, phaseBy, phaseOf};
+ghost use Rattle.flat.specs.Flats.{flat, plain, flatOf, numbersOf, row, rowBy, bit, mailOf, encodingOf, outcomeOf, fieldsOf, heardOf, phaseBy, phaseOf, settingsOf};
 use events::Encoding;
 use events::Log;
 use events::Outcome;
 use phases::Heard;
 use phases::Phase;
 use rules::Mail;
+use rules::Settings;
 
 // A phase by its number, with all that a phase can hold; what it does not hold is 0.
 pub struct Flat {
@@ -24,10 +25,10 @@ pub struct Flat {
 
 // ---- there
 
-pub fn numbers_of(phase: Phase, at: usize, log: Log) -> [u64; 24]
-    ensures { λ r. ⌜ r ≡ numbersOf phase at log ⌝ }
+pub fn numbers_of(settings: Settings, phase: Phase, at: usize, log: Log) -> [u64; 24]
+    ensures { λ r. ⌜ r ≡ numbersOf settings phase at log ⌝ }
 {
-    row(flat_of(phase), at, log)
+    row(settings, flat_of(phase), at, log)
 }
 
 fn flat_of(phase: Phase) -> Flat
@@ -160,19 +161,27 @@ fn ended(result: Outcome, place: usize) -> Flat
     }
 }
 
-fn row(f: Flat, at: usize, log: Log) -> [u64; 24]
-    ensures { λ r. ⌜ r ≡ row f at log ⌝ }
+fn row(settings: Settings, f: Flat, at: usize, log: Log) -> [u64; 24]
+    ensures { λ r. ⌜ r ≡ row settings f at log ⌝ }
 {
     let mail = f.mail;
     match mail {
-        Mail::Smtp => row_by(f, 0, 0, 0, at, log),
-        Mail::Pop3 => row_by(f, 1, 0, 0, at, log),
-        Mail::Imap(size, start) => row_by(f, 2, size, start, at, log),
+        Mail::Smtp => row_by(settings, f, 0, 0, 0, at, log),
+        Mail::Pop3 => row_by(settings, f, 1, 0, 0, at, log),
+        Mail::Imap(size, start) => row_by(settings, f, 2, size, start, at, log),
     }
 }
 
-fn row_by(f: Flat, kind: u64, size: u64, start: usize, at: usize, log: Log) -> [u64; 24]
-    ensures { λ r. ⌜ r ≡ rowBy f kind size start at log ⌝ }
+fn row_by(
+    settings: Settings,
+    f: Flat,
+    kind: u64,
+    size: u64,
+    start: usize,
+    at: usize,
+    log: Log,
+) -> [u64; 24]
+    ensures { λ r. ⌜ r ≡ rowBy settings f kind size start at log ⌝ }
 {
     let encoding = f.encoding;
     let result = f.result;
@@ -180,6 +189,7 @@ fn row_by(f: Flat, kind: u64, size: u64, start: usize, at: usize, log: Log) -> [
     let ends = events::result_number(result) as u64;
     let here = bit(f.here);
     let supplied = bit(f.supplied);
+    let strict = bit(settings.strict);
     [
         f.tag,
         at as u64,
@@ -194,7 +204,7 @@ fn row_by(f: Flat, kind: u64, size: u64, start: usize, at: usize, log: Log) -> [
         here,
         supplied,
         ends,
-        0,
+        strict,
         0,
         0,
         0,
@@ -223,6 +233,13 @@ pub fn phase_of(numbers: &[u64; 24]) -> Phase
     ensures { λ r. ⌜ r ≡ phaseOf (now (numbers .entry)) ⌝ }
 {
     phase_by(fields_of(numbers))
+}
+
+pub fn settings_of(numbers: &[u64; 24]) -> Settings
+    ensures { λ r. ⌜ r ≡ settingsOf (now (numbers .entry)) ⌝ }
+{
+    let strict = numbers[13] != 0;
+    Settings { strict }
 }
 
 fn fields_of(numbers: &[u64; 24]) -> Flat
@@ -285,6 +302,7 @@ fn outcome_of(n: u64) -> Outcome
         8 => Outcome::OpenLiteral,
         9 => Outcome::TooDeep,
         10 => Outcome::TableFull,
+        11 => Outcome::BareLf,
         12 => Outcome::LongBoundary,
         _ => Outcome::NoSession,
     }

@@ -2,17 +2,18 @@
 ghost use mathlib.Core.Path.{_≡_};
 ghost use Rattle.direction.specs.Direction.{guess, guessNumber};
 ghost use Rattle.rules.specs.Sessions.{smtpClient, smtpServer, pop3Server, imapClient};
-ghost use Rattle.mailindex.specs.Exports.{Answers, numbersOf, marked, version, chosen, unset, Begins, Showing, shownOf};
+ghost use Rattle.mailindex.specs.Exports.{Answers, numbersOf, marked, version, chosen, entryBy, unset, Begins, Showing, shownOf};
 use events::Answer;
 use events::Log;
 use events::Outcome;
 use rules::Entry;
+use rules::Settings;
 
-const VERSION: u32 = 3;
+const VERSION: u32 = 4;
 
-// The entry that a session's choices name.
+// The entry and the settings that a session's choices name.
 pub enum Chosen {
-    Of(Entry),
+    Of(Entry, Settings),
     None,
 }
 
@@ -25,18 +26,18 @@ pub extern "C" fn mailindex_begin(
 ) -> u32
     ensures { λ r. ⌜ Begins (chosen (now (choices .entry))) (now (numbers .exit)) (now (boundaries .exit)) r ⌝ }
 {
-    match entry_of(choices) {
+    match choice_of(choices) {
         Chosen::None => {
             *numbers = [0; 24];
             *boundaries = [0; 648];
             events::result_number(Outcome::NoSession)
         }
-        Chosen::Of(entry) => {
-            let session = tap::begin(entry);
+        Chosen::Of(entry, settings) => {
+            let session = tap::begin(entry, settings);
             let phase = session.phase;
             let log = session.log;
             let copies = session.boundaries;
-            *numbers = flat::numbers_of(phase, session.at, log);
+            *numbers = flat::numbers_of(settings, phase, session.at, log);
             *boundaries = copies;
             events::result_number(Outcome::Incomplete)
         }
@@ -55,31 +56,42 @@ pub extern "C" fn mailindex_show(
     ensures { λ _. ⌜ Showing (now (numbers .entry)) (now (boundaries .entry)) (now (w .entry)) (now (table .entry))
         (now (numbers .exit)) (now (boundaries .exit)) (now (table .exit)) (now (answer .exit)) ⌝ }
 {
+    let settings = flat::settings_of(numbers);
     let phase = flat::phase_of(numbers);
     let at = numbers[1] as usize;
     let log = Log {
         count: numbers[2] as usize,
     };
-    let seen = tap::show_lent(phase, at, log, boundaries, w, table);
+    let seen = tap::show_lent(settings, phase, at, log, boundaries, w, table);
     let phase = seen.phase;
     let log = seen.log;
     let said = seen.answer;
-    *numbers = flat::numbers_of(phase, seen.at, log);
+    *numbers = flat::numbers_of(settings, phase, seen.at, log);
     *answer = shown_numbers(said, seen.taken);
 }
 
-// The entry at index 0; the other choices have no name yet, and are 0.
-fn entry_of(choices: &[u64; 8]) -> Chosen
+// The entry at index 0, the strict setting at index 1; the other choices have no name yet, and are 0.
+fn choice_of(choices: &[u64; 8]) -> Chosen
     ensures { λ r. ⌜ r ≡ chosen (now (choices .entry)) ⌝ }
 {
     if !rest_unset(choices) {
         return Chosen::None;
     }
-    match choices[0] {
-        1 => Chosen::Of(Entry::SmtpClient),
-        2 => Chosen::Of(Entry::SmtpServer),
-        3 => Chosen::Of(Entry::Pop3Server),
-        4 => Chosen::Of(Entry::ImapClient),
+    match choices[1] {
+        0 => entry_of(choices[0], Settings { strict: false }),
+        1 => entry_of(choices[0], Settings { strict: true }),
+        _ => Chosen::None,
+    }
+}
+
+fn entry_of(n: u64, settings: Settings) -> Chosen
+    ensures { λ r. ⌜ r ≡ entryBy n settings ⌝ }
+{
+    match n {
+        1 => Chosen::Of(Entry::SmtpClient, settings),
+        2 => Chosen::Of(Entry::SmtpServer, settings),
+        3 => Chosen::Of(Entry::Pop3Server, settings),
+        4 => Chosen::Of(Entry::ImapClient, settings),
         _ => Chosen::None,
     }
 }
@@ -88,7 +100,7 @@ fn rest_unset(choices: &[u64; 8]) -> bool
     ensures { λ r. ⌜ r ≡ unset (now (choices .entry)) 7 ⌝ }
 {
     let mut i = 7;
-    while 0 < i {
+    while 1 < i {
         if choices[i] != 0 {
             return false;
         }

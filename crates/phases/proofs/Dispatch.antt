@@ -17,6 +17,7 @@ use Rattle.reads.specs.Contracts.{Begins}
 use Rattle.rules.specs.Phases.{ends}
 use Rattle.rules.specs.Sessions.{resultOf}
 use Rattle.rules.specs.declared.Mail.{Mail}
+use Rattle.rules.specs.declared.Settings.{Settings}
 use Rattle.windows.proofs.Cut.{over-stays}
 use Rattle.windows.specs.Stands.{fresh, standResult}
 use Rattle.windows.specs.Windows.{over, keeps, landed, lands}
@@ -63,11 +64,11 @@ module _ {w : List ℕ} {base : ℕ} {k : List ℕ} {s : Spot} (h : Ready w base
   ready-resting e = rw e at (h .fits)
 
 -- ---- the end: done takes what was read, a refusal nothing
-pub ends-here : {w : List ℕ} {base p : ℕ} {k t : List ℕ} {log : Log} {o : Outcome} {q n : ℕ} → p ≤ length w → n ≡ cond (eqb (resultNumber o) 0) p 0
-    → Goes w base p k t log (stateOf k (is.Over o q)) (record { phase = is.Over o q; taken = n; log = log }) t
+pub ends-here : {set : Settings} {w : List ℕ} {base p : ℕ} {k t : List ℕ} {log : Log} {o : Outcome} {q n : ℕ} → p ≤ length w → n ≡ cond (eqb (resultNumber o) 0) p 0
+    → Goes set w base p k t log (stateOf k (is.Over o q)) (record { phase = is.Over o q; taken = n; log = log }) t
 unfolding lands pour landed keeps over standResult resultOf stateOf Fits
-ends-here {w} {base} {p} {k} {t} {log} {o} {q} {n} h e =
-    let stays = over-stays (fresh (ends o q)) (base + p) (drop p w) refl in
+ends-here {set} {w} {base} {p} {k} {t} {log} {o} {q} {n} h e =
+    let stays = over-stays set (fresh (ends o q)) (base + p) (drop p w) refl in
     by-test (eqb (resultNumber o) 0)
     (λ b.
     let z : n ≡ p = e ∙ rw b in
@@ -78,21 +79,21 @@ ends-here {w} {base} {p} {k} {t} {log} {o} {q} {n} h e =
     record { within = omega arith; fits = tt; is = sym (ap (lands base t log) stays ∙ rw (b, z, y)) })
 
 -- ---- turns, one after another
-pub record Arrived (w : List ℕ) (base : ℕ) (k₀ t₀ : List ℕ) (s₀ : Spot) (k t : List ℕ) (s : Spot) : Type 0 where
+pub record Arrived (set : Settings) (w : List ℕ) (base : ℕ) (k₀ t₀ : List ℕ) (s₀ : Spot) (k t : List ℕ) (s : Spot) : Type 0 where
   pub slots : Slots k
   pub fits : Fits (s .phase) (base + s .taken)
-  pub came : Came w base (s₀ .taken) t₀ (s₀ .log) (stateOf k₀ (s₀ .phase)) (s .taken) t (s .log) (stateOf k (s .phase))
+  pub came : Came set w base (s₀ .taken) t₀ (s₀ .log) (stateOf k₀ (s₀ .phase)) (s .taken) t (s .log) (stateOf k (s .phase))
   pub as-many : length k ≡ length k₀
   pub long : length t ≡ length t₀
 
-pub arrived : {w : List ℕ} {base : ℕ} {k t : List ℕ} {s : Spot} → Ready w base k s → Arrived w base k t s k t s
+pub arrived : {set : Settings} {w : List ℕ} {base : ℕ} {k t : List ℕ} {s : Spot} → Ready w base k s → Arrived set w base k t s k t s
 arrived h = record { slots = h .slots; fits = h .fits; came = record { within = h .within; is = refl }; as-many = refl; long = refl }
 
-module _ {w : List ℕ} {base : ℕ} {k₀ t₀ : List ℕ} {s₀ : Spot} {k t : List ℕ} {s : Spot} (a : Arrived w base k₀ t₀ s₀ k t s) where
+module _ {set : Settings} {w : List ℕ} {base : ℕ} {k₀ t₀ : List ℕ} {s₀ : Spot} {k t : List ℕ} {s : Spot} (a : Arrived set w base k₀ t₀ s₀ k t s) where
   pub ready : Ready w base k s
   ready = record { within = a .came .within; slots = a .slots; fits = a .fits }
 
-  pub arrived-on : {k' u : List ℕ} {r : Spot} → Turned w base k t s k' (turn.On r) u → length k' ≡ length k → length u ≡ length t → Arrived w base k₀ t₀ s₀ k' u r
+  pub arrived-on : {k' u : List ℕ} {r : Spot} → Turned set w base k t s k' (turn.On r) u → length k' ≡ length k → length u ≡ length t → Arrived set w base k₀ t₀ s₀ k' u r
   arrived-on d m l = record {
     slots = d .slots;
     fits = d .is .fits;
@@ -101,5 +102,5 @@ module _ {w : List ℕ} {base : ℕ} {k₀ t₀ : List ℕ} {s₀ : Spot} {k t :
     long = l ∙ a .long;
   }
 
-  pub arrived-last : {k' u : List ℕ} {r : Spot} → Turned w base k t s k' (turn.Stop r) u → Went w base k₀ t₀ s₀ k' r u
+  pub arrived-last : {k' u : List ℕ} {r : Spot} → Turned set w base k t s k' (turn.Stop r) u → Went set w base k₀ t₀ s₀ k' r u
   arrived-last d = record { slots = d .slots; is = came-goes (a .came) (d .is) }

@@ -33,15 +33,18 @@ use Rattle.reads.specs.declared.Stop.{Stop}
 use Rattle.rules.specs.Machine.{Reaction}
 use Rattle.rules.specs.Mail.{begun, boundaryFree, plainMail, literalBody, rest, onHead}
 use Rattle.rules.specs.Phases as phase
-use Rattle.rules.specs.Phases.{State, reads, wants, then, ahead}
-use Rattle.rules.specs.Sessions.{reacts}
+use Rattle.rules.specs.Phases.{State, reads, need, wants, then, ahead}
+use Rattle.rules.specs.Sessions.{reacts, react}
+use Rattle.rules.specs.Strict.{strictly}
 use Rattle.rules.specs.declared.Mail.{Mail}
 use Rattle.rules.specs.declared.Mail.the-variants.{Smtp, Pop3, Imap}
-use Rattle.windows.specs.Stands.{Stand, fresh, enter, enters, opens, copied, clipped}
+use Rattle.rules.specs.declared.Settings.{Settings}
+use Rattle.windows.proofs.Courses.{pieces-got}
+use Rattle.windows.specs.Stands.{fresh, enter, enters, opens, copied, clipped, takes, does}
 use Rattle.windows.specs.Windows.{lands}
 use Rattle.phases.proofs.Reactions.{offered-mail, offered-not}
-use Rattle.phases.proofs.Turning.{to-end, piece-of, waits-whole, leads, leads-written, leads-full, came-leaves, came-goes, came-turn}
-use Rattle.phases.specs.Phasing.{slot, outside, Slots, Kept, boundaryOf, knownAs, unheard, stateOf, Fits, Piece, Came, TurnIs, HeadIs, overOf, onwardOf}
+use Rattle.phases.proofs.Turning.{to-end, piece-of, waits-whole, halts, leads, leads-written, leads-full, came-leaves, came-turn}
+use Rattle.phases.specs.Phasing.{Passes, Halts, haltedOf, slot, outside, Slots, Kept, boundaryOf, knownAs, unheard, stateOf, Fits, Piece, Came, TurnIs, HeadIs, overOf, onwardOf}
 use Rattle.phases.specs.Phasing.{Learns, BegunIs, DeeperIs, behindOf}
 use Rattle.phases.specs.declared.Heard.{Heard}
 use Rattle.phases.specs.declared.Phase.{Phase}
@@ -216,42 +219,41 @@ module _ (m : Mail) (x : Heard) (i to : ℕ) (k : List ℕ) {t : List ℕ} {log 
 abbrev turned : Mail → Known → List (List ℕ) → ℕ → List ℕ → Bool → Reaction State
 turned m y os to l b = cond b (begun m (y .encoding) (y .boundary) os to) (then [] (phase.head m (scanned y l) os))
 
-head-piece : (base : ℕ) {w : List ℕ} {p e : ℕ} (m : Mail) (y : Known) (os : List (List ℕ)) (b : Bool) → Ends aLine w p e → same crlf (part w p e) ≡ b
-    → Piece w base p (fresh (reads (phase.head m y os))) e (ahead (ev headerLine (base + p) (e - p) Unsaid) (turned m y os (base + e) (part w p e) b))
+head-piece : {set : Settings} (base : ℕ) {w : List ℕ} {p e : ℕ} (m : Mail) (y : Known) (os : List (List ℕ)) (b : Bool) → Passes set w p e → same crlf (part w p e) ≡ b
+    → Piece set w base p (fresh (reads (phase.head m y os))) e (ahead (ev headerLine (base + p) (e - p) Unsaid) (turned m y os (base + e) (part w p e) b))
 unfolding reacts onHead wants
-head-piece base m y os b d q = piece-of (phase.head m y os) d (rw (q, to-end base d, d .long))
+head-piece base m y os b d q = piece-of (phase.head m y os) (d .ends) (d .passes) (rw (q, to-end base (d .ends), d .ends .long))
 
 -- a mail that has begun before a has begun before what is behind it
 pub begins-later : {m : Mail} {a : ℕ} (to : ℕ) → Begins m a → a ≤ to → Begins m to
 begins-later to d h = record { is = λ size start q. omega (arith, d .is size start q) }
 
 -- the loop's invariant: what is left at p, with what is heard, is what was left at a for the phase ph
-pub record HeadAt (w : List ℕ) (base a : ℕ) (k₀ t₀ : List ℕ) (log₀ : Log) (ph : Phase) (m : Mail) (x : Heard) (i : ℕ) (k : List ℕ) (p : ℕ) (t : List ℕ) (log : Log) : Type 0 where
+pub record HeadAt (set : Settings) (w : List ℕ) (base a : ℕ) (k₀ t₀ : List ℕ) (log₀ : Log) (ph : Phase) (m : Mail) (x : Heard) (i : ℕ) (k : List ℕ) (p : ℕ) (t : List ℕ) (log : Log) : Type 0 where
   pub from : a ≤ p
   pub slots : Slots k
   pub deep : i ≤ 8
   pub begins : Begins m (base + p)
-  pub came : Came w base a t₀ log₀ (stateOf k₀ ph) p t log (stateOf k (is.Head m x i))
+  pub came : Came set w base a t₀ log₀ (stateOf k₀ ph) p t log (stateOf k (is.Head m x i))
   pub as-many : length k ≡ length k₀
   pub long : length t ≡ length t₀
 
-pub head-start : {w : List ℕ} {base a : ℕ} {t : List ℕ} {log : Log} {m : Mail} {x : Heard} {i : ℕ} {k : List ℕ} → a ≤ length w → Slots k → i ≤ 8 → Begins m (base + a)
-    → HeadAt w base a k t log (is.Head m x i) m x i k a t log
+pub head-start : {set : Settings} {w : List ℕ} {base a : ℕ} {t : List ℕ} {log : Log} {m : Mail} {x : Heard} {i : ℕ} {k : List ℕ} → a ≤ length w → Slots k → i ≤ 8 → Begins m (base + a)
+    → HeadAt set w base a k t log (is.Head m x i) m x i k a t log
 head-start h s v b = record { from = omega arith; slots = s; deep = v; begins = b; came = record { within = h; is = refl }; as-many = refl; long = refl }
 
-module _ {w : List ℕ} {base a : ℕ} {k₀ t₀ : List ℕ} {log₀ : Log} {ph : Phase} {m : Mail} {x : Heard} {i : ℕ} {k : List ℕ} {p : ℕ} {t : List ℕ} {log : Log}
-    (at : HeadAt w base a k₀ t₀ log₀ ph m x i k p t log) where
-  -- no line is finished
-  pub head-short : {o : Outcome} → Stops aLine w p o → HeadIs w base a k₀ t₀ log₀ ph (turn.Stop (record { phase = is.Head m x i; taken = p; log = log })) k t
+module _ {set : Settings} {w : List ℕ} {base a : ℕ} {k₀ t₀ : List ℕ} {log₀ : Log} {ph : Phase} {m : Mail} {x : Heard} {i : ℕ} {k : List ℕ} {p : ℕ} {t : List ℕ} {log : Log}
+    (at : HeadAt set w base a k₀ t₀ log₀ ph m x i k p t log) where
+  -- no line is finished, or it is refused
+  pub head-halts : {o : Outcome} {r : Turn} → Halts set w p o → r ≡ haltedOf o (is.Head m x i) (base + p) p log → HeadIs set w base a k₀ t₀ log₀ ph r k t
   unfolding stateOf Fits wants
-  head-short d = record {
-    slots = at .slots;
-    is = came-goes (at .came) (waits-whole (is.Head m x i) (phase.head m (knownAs k i x) (outside k i)) refl d (at .came .within) (at .deep, at .begins));
-  }
+  head-halts {o} d q =
+      let here = halts base k t log (is.Head m x i) (phase.head m (knownAs k i x) (outside k i)) refl refl d (at .came .within) (at .deep, at .begins) in
+      rw q (record { slots = at .slots; is = came-turn k t (haltedOf o (is.Head m x i) (base + p) p log) (at .from) (at .came) here })
 
-  module _ {e : ℕ} (d : Ends aLine w p e) {u : List ℕ} where
+  module _ {e : ℕ} (d : Passes set w p e) {u : List ℕ} where
     -- its event finds no slot
-    pub head-full : {s : Stop} {r : Turn} → Full t log (ev headerLine (base + p) (e - p) Unsaid ∷ []) s u → r ≡ overOf s e → HeadIs w base a k₀ t₀ log₀ ph r k u
+    pub head-full : {s : Stop} {r : Turn} → Full t log (ev headerLine (base + p) (e - p) Unsaid ∷ []) s u → r ≡ overOf s e → HeadIs set w base a k₀ t₀ log₀ ph r k u
     unfolding stateOf
     head-full {s} n q =
         let b = same crlf (part w p e) in
@@ -266,18 +268,18 @@ module _ {w : List ℕ} {base a : ℕ} {k₀ t₀ : List ℕ} {log₀ : Log} {ph
     module _ {next : Log} (n : Written t log (ev headerLine (base + p) (e - p) Unsaid ∷ []) next u) where
       -- a line is heard
       pub head-on : {r : Heard} {k' : List ℕ} → same crlf (part w p e) ≡ false → Learns w p e x i k r k' → length u ≡ length t
-          → HeadAt w base a k₀ t₀ log₀ ph m r i k' e u next
+          → HeadAt set w base a k₀ t₀ log₀ ph m r i k' e u next
       unfolding stateOf enter enters Fits
       head-on {r} {k'} h y v =
           let g : stateOf k' (is.Head m r i) ≡ enter (reads (phase.head m (scanned (knownAs k i x) (part w p e)) (outside k i))) (base + e) =
           ap (λ (z : Known). fresh (reads (phase.head m z (outside k' i)))) (y .is)
           ∙ ap (λ (os : List (List ℕ)). fresh (reads (phase.head m (clipped (scanned (knownAs k i x) (part w p e))) os))) (y .outer) in
-          let b : Begins m (base + e) = begins-later (base + e) (at .begins) (omega (arith, d .on)) in
+          let b : Begins m (base + e) = begins-later (base + e) (at .begins) (omega (arith, d .ends .on)) in
           let l =
           came-leaves (at .from) (at .came)
           (leads-written (head-piece base m (knownAs k i x) (outside k i) false d h) {k = k'} {ph = is.Head m r i} n (record { is = g; fits = (at .deep, b) })) in
           record {
-            from = omega (arith, at .from, d .on);
+            from = omega (arith, at .from, d .ends .on);
             slots = y .slots;
             deep = at .deep;
             begins = b;
@@ -289,7 +291,7 @@ module _ {w : List ℕ} {base a : ℕ} {k₀ t₀ : List ℕ} {log₀ : Log} {ph
       -- the blank line
       pub head-begun : {b : Begun} {v : List ℕ} {r : Turn} → same crlf (part w p e) ≡ true
           → BegunIs (behindOf m x i k (base + e)) (base + e) k u next b v → r ≡ onwardOf (b .noted) (b .phase) e
-          → HeadIs w base a k₀ t₀ log₀ ph r k v
+          → HeadIs set w base a k₀ t₀ log₀ ph r k v
       unfolding stateOf
       head-begun {b} {v} h y q =
           let re = behindOf m x i k (base + e) in
@@ -304,30 +306,38 @@ module _ {w : List ℕ} {base a : ℕ} {k₀ t₀ : List ℕ} {log₀ : Log} {ph
 pub begins-here : (size at : ℕ) → Begins (Imap size at) at
 begins-here size at = record { is = λ n start q. let z : at ≡ start = cc in omega arith }
 
--- two reads of a line that react the same
-alike : {w : List ℕ} {base p : ℕ} {f g : Stand} {e : ℕ} {re : Reaction State} (t : List ℕ) (log : Log) → Piece w base p f e re → Piece w base p g e re
-    → Came w base p t log f p t log g
-alike {base = base} t log a b = record { within = omega (arith, a .on, a .within); is = ap (lands base t log) (b .is ∙ sym (a .is)) }
+-- it is read as another phase reads it, which refuses it where this one does
+as-read : {set : Settings} {w : List ℕ} {base p e : ℕ} (t : List ℕ) (log : Log) (size : ℕ) (so : phase.Phase) → Ends aLine w p e → wants so ≡ aLine
+    → reacts (phase.offered size) (base + p) (part w p e) ≡ reacts so (base + p) (part w p e)
+    → Came set w base p t log (fresh (reads (phase.offered size))) p t log (fresh (reads so))
+unfolding wants takes does strictly need react
+as-read {set} {w} {base} {p} {e} t log size so d a q = record {
+  within = omega (arith, d .on, d .within);
+  is =
+      ap (lands base t log)
+      (pieces-got set (fresh (reads so)) (base + p) (drop p w) (part w p e) (drop e w) (rw a (d .is))
+      ∙ rw (a, ← q) (sym (pieces-got set (fresh (reads (phase.offered size))) (base + p) (drop p w) (part w p e) (drop e w) (d .is))));
+}
 
-module _ {w : List ℕ} {base p : ℕ} {k t : List ℕ} {log : Log} {size : ℕ} where
+module _ {set : Settings} {w : List ℕ} {base p : ℕ} {k t : List ℕ} {log : Log} {size : ℕ} where
   pub offered-short : {o : Outcome} → Stops aLine w p o → p ≤ length w → Slots k
-      → HeadIs w base p k t log (is.Offered size) (turn.Stop (record { phase = is.Offered size; taken = p; log = log })) k t
+      → HeadIs set w base p k t log (is.Offered size) (turn.Stop (record { phase = is.Offered size; taken = p; log = log })) k t
   unfolding stateOf Fits wants
   offered-short d h s = record { slots = s; is = waits-whole (is.Offered size) (phase.offered size) refl d h tt }
 
   module _ {e : ℕ} (d : Ends aLine w p e) {r : Turn} {u : List ℕ} where
     -- it holds a colon: a mail
-    pub offered-head : {k' : List ℕ} → holdsColon (part w p e) ≡ true → HeadIs w base p k t log (is.Head (Imap size (base + p)) unheard 0) r k' u
-        → HeadIs w base p k t log (is.Offered size) r k' u
+    pub offered-head : {k' : List ℕ} → holdsColon (part w p e) ≡ true → HeadIs set w base p k t log (is.Head (Imap size (base + p)) unheard 0) r k' u
+        → HeadIs set w base p k t log (is.Offered size) r k' u
     unfolding stateOf outside wants
     offered-head {k'} h y =
         let so = phase.head (Imap size (base + p)) (knownAs k 0 unheard) [] in
-        let c = alike t log (piece-of (phase.offered size) d (offered-mail size (base + p) (part w p e) h)) (piece-of so d refl) in
+        let c = as-read t log size so d refl (offered-mail size (base + p) (part w p e) h) in
         record { slots = y .slots; is = came-turn k' u r (let n : p ≤ p = omega arith in n) c (y .is) }
 
     -- else a command
-    pub offered-command : holdsColon (part w p e) ≡ false → Slots k → TurnIs w base p k t log (stateOf k is.Command) r u → HeadIs w base p k t log (is.Offered size) r k u
+    pub offered-command : holdsColon (part w p e) ≡ false → Slots k → TurnIs set w base p k t log (stateOf k is.Command) r u → HeadIs set w base p k t log (is.Offered size) r k u
     unfolding stateOf wants
     offered-command h s y =
-        let c = alike t log (piece-of (phase.offered size) d (offered-not size (base + p) (part w p e) h)) (piece-of phase.command d refl) in
+        let c = as-read t log size phase.command d refl (offered-not size (base + p) (part w p e) h) in
         record { slots = s; is = came-turn k u r (let n : p ≤ p = omega arith in n) c y }

@@ -32,6 +32,7 @@ use Rattle.rules.specs.Phases as phase
 use Rattle.rules.specs.Phases.{State, reads, ends, then, stop}
 use Rattle.rules.specs.Sessions.{reacts}
 use Rattle.rules.specs.declared.Mail.{Mail}
+use Rattle.rules.specs.declared.Settings.{Settings}
 use Rattle.windows.proofs.Courses.{taking, pieces-short, pieces-got}
 use Rattle.windows.proofs.Delimiters.{word-marks, delimited}
 use Rattle.windows.proofs.Marks.{Marks, Lined, lined, no-line, ends-same, got-none, Way, marked, line, way, by-lines, upTo}
@@ -176,25 +177,25 @@ short-line mark here s e = by-standing (standing mark here s) e
     by-standing (At n) g = absurd (got-none (sym g))
     by-standing Nowhere g = g
 
-module _ {mark : Mark} (laws : Marks mark) {f : Bool → Stand} {end : ℕ → Reaction State}
-    (under : Under (pieceOf mark) (isMark mark) (λ here l. endsWith crlf l) f end) where
+module _ {settings : Settings} {mark : Mark} (laws : Marks mark) {f : Bool → Stand} {end : ℕ → Reaction State}
+    (under : Under settings (pieceOf mark) (isMark mark) (λ here l. endsWith crlf l) f end) where
   goes-on : (here : Bool) (at : ℕ) (s l r : List ℕ) → pieceOf mark here s ≡ got l r → isMark mark here l ≡ false
-      → pieces (f here) at s ≡ pieces (f (endsWith crlf l)) (at + length l) r
+      → pieces settings (f here) at s ≡ pieces settings (f (endsWith crlf l)) (at + length l) r
   goes-on here at s l r e i =
-      let d : does (f here) at l ≡ goesOn (f (endsWith crlf l)) = under .does here at l ∙ rw i in
-      pieces-got (f here) at s l r (under .takes here s ∙ e) ∙ ap (λ (x : Reaction Stand). before (x .events) (pieces (x .next) (at + length l) r)) d
+      let d : does settings (f here) at l ≡ goesOn (f (endsWith crlf l)) = under .does here at l ∙ rw i in
+      pieces-got settings (f here) at s l r (under .takes here s ∙ e) ∙ ap (λ (x : Reaction Stand). before (x .events) (pieces settings (x .next) (at + length l) r)) d
 
   by-piece : (here : Bool) (at : ℕ) (s : List ℕ) (q : ℕ) → LastLf s q → upTo mark here s ≡ short
       → ((v : Bool) (to : ℕ) (r : List ℕ) (x : ℕ) → length r < length s → LastLf r x → upTo mark v r ≡ short
-      → pieces (f v) to r ≡ stay (f (there v r x)) (to + x) (drop x r))
-      → (g : Got) → pieceOf mark here s ≡ g → pieces (f here) at s ≡ stay (f (there here s q)) (at + q) (drop q s)
+      → pieces settings (f v) to r ≡ stay (f (there v r x)) (to + x) (drop x r))
+      → (g : Got) → pieceOf mark here s ≡ g → pieces settings (f here) at s ≡ stay (f (there here s q)) (at + q) (drop q s)
   by-piece here at s q d e ih short g =
       let z : q ≡ 0 = none-last s q d (short-line mark here s g) in
       let a : at + 0 ≡ at = omega arith in
-      rw (z, a) (pieces-short (f here) at s (under .takes here s ∙ g))
+      rw (z, a) (pieces-short settings (f here) at s (under .takes here s ∙ g))
   by-piece here at s q d e ih (got l r) g = by-way (way laws here s l r g)
     where
-      by-way : Way laws here s l r → pieces (f here) at s ≡ stay (f (there here s q)) (at + q) (drop q s)
+      by-way : Way laws here s l r → pieces settings (f here) at s ≡ stay (f (there here s q)) (at + q) (drop q s)
       by-way (marked n h a b x j) = absurd (got-none (sym e ∙ by-lines laws .ends here s l r g j))
       by-way (line h k j) =
           let c : Lined s l r = lined s l r k in
@@ -209,17 +210,17 @@ module _ {mark : Mark} (laws : Marks mark) {f : Bool → Stand} {end : ℕ → R
           ∙ rw (n, v, there-behind here s l r q c (m .0) (d .within))
 
   upto : (n : ℕ) (here : Bool) (at : ℕ) (s : List ℕ) (q : ℕ) → length s < n → LastLf s q → upTo mark here s ≡ short
-      → pieces (f here) at s ≡ stay (f (there here s q)) (at + q) (drop q s)
+      → pieces settings (f here) at s ≡ stay (f (there here s q)) (at + q) (drop q s)
   upto zero here at s q h d e = absurd (omega arith)
   upto (suc n) here at s q h d e = by-piece here at s q d e (λ v to r x i j k. upto n v to r x (omega arith) j k) (pieceOf mark here s) refl
 
   waits-behind : (here : Bool) (at : ℕ) (s : List ℕ) (q : ℕ) → LastLf s q → upTo mark here s ≡ short
-      → pieces (f here) at s ≡ stay (f (there here s q)) (at + q) (drop q s)
+      → pieces settings (f here) at s ≡ stay (f (there here s q)) (at + q) (drop q s)
   waits-behind here at s q d e = upto (suc (length s)) here at s q (omega arith) d e
 
 -- ---- a delimiter may stand at p: what the search finds
-lines-under : {b : List ℕ} {f : Bool → Stand} {end : ℕ → Reaction State} → ByLines b f end
-    → Under (pieceOf (word (dash b))) (isMark (word (dash b))) (λ here l. endsWith crlf l) f end
+lines-under : {settings : Settings} {b : List ℕ} {f : Bool → Stand} {end : ℕ → Reaction State} → ByLines settings b f end
+    → Under settings (pieceOf (word (dash b))) (isMark (word (dash b))) (λ here l. endsWith crlf l) f end
 lines-under u = record { takes = u .takes; does = u .does }
 
 found-ends : {w : List ℕ} {p : ℕ} {b : List ℕ} {e : ℕ} → Ends (delimiter b) w p e → Found w p b true e
@@ -227,10 +228,10 @@ unfolding Comes
 found-ends {w} {p} {b} {e} d = record {
   on = d .on;
   within = d .within;
-  is = λ f end u base.
+  is = λ settings f end u base.
       let P = by-lines (word-marks (dash b) (omega arith)) in
-      let g : Comes taking P (lines-under u) true (base + p) (drop p w) (got (part w p e) (drop e w)) =
-      subst (Comes taking P (lines-under u) true (base + p) (drop p w)) (delimited b (drop p w) ∙ d .is) (comes taking P (lines-under u) true (base + p) (drop p w)) in
+      let g : Comes settings taking P (lines-under u) true (base + p) (drop p w) (got (part w p e) (drop e w)) =
+      subst (Comes settings taking P (lines-under u) true (base + p) (drop p w)) (delimited b (drop p w) ∙ d .is) (comes settings taking P (lines-under u) true (base + p) (drop p w)) in
       record { on = d .on; within = d .within; is = rw (to-end base d) at g };
 }
 
@@ -257,7 +258,7 @@ module _ (w : List ℕ) (p : ℕ) (b : List ℕ) (h : p ≤ length w) where
     search-waits = record {
       on = omega arith;
       within = omega (arith, last .within, length-drop p w);
-      is = λ f end u base.
+      is = λ settings f end u base.
           let m : base + p + n ≡ base + (p + n) = omega arith in
           waits-behind (word-marks (dash b) (omega arith)) (lines-under u) true (base + p) (drop p w) n last vain ∙ rw (m, drop-drop n p w);
     }
@@ -277,11 +278,11 @@ module _ (w : List ℕ) (p : ℕ) (b : List ℕ) (h : p ≤ length w) where
 pub record Passed (w : List ℕ) (p : ℕ) (b : List ℕ) (here : Bool) (q : ℕ) (there : Bool) : Type 0 where
   pub on : p ≤ q
   pub within : q ≤ length w
-  pub is : (f : Bool → Stand) (end : ℕ → Reaction State) → ByLines b f end
-      → (base : ℕ) → pieces (f here) (base + p) (drop p w) ≡ pieces (f there) (base + q) (drop q w)
+  pub is : (settings : Settings) (f : Bool → Stand) (end : ℕ → Reaction State) → ByLines settings b f end
+      → (base : ℕ) → pieces settings (f here) (base + p) (drop p w) ≡ pieces settings (f there) (base + q) (drop q w)
 
 pub none-passed : {w : List ℕ} {p : ℕ} {b : List ℕ} {here : Bool} → p ≤ length w → Passed w p b here p here
-none-passed h = record { on = omega arith; within = h; is = λ f end u base. refl }
+none-passed h = record { on = omega arith; within = h; is = λ settings f end u base. refl }
 
 not-mark : (mark : Mark) (l : List ℕ) → isMark mark false l ≡ false
 unfolding isMark isAt standing
@@ -296,9 +297,9 @@ module _ {w : List ℕ} {p : ℕ} {b : List ℕ} {here : Bool} {q : ℕ} {there 
   passed-line {e} {r} t c i = record {
     on = omega (arith, d .on, c .on);
     within = c .within;
-    is = λ f end u base.
-        d .is f end u base
-        ∙ ap (λ (x : Bool). pieces (f x) (base + q) (drop q w)) t
+    is = λ settings f end u base.
+        d .is settings f end u base
+        ∙ ap (λ (x : Bool). pieces settings (f x) (base + q) (drop q w)) t
         ∙ goes-on (word-marks (dash b) (omega arith)) (lines-under u) false (base + q) (drop q w) (part w q e) (drop e w)
         (just-line (word (dash b)) (drop q w) ∙ c .is) (not-mark (word (dash b)) (part w q e))
         ∙ rw (to-end base c, i);
@@ -309,9 +310,9 @@ module _ {w : List ℕ} {p : ℕ} {b : List ℕ} {here : Bool} {q : ℕ} {there 
   passed-waits t c = record {
     on = d .on;
     within = d .within;
-    is = λ f end u base.
-        d .is f end u base
-        ∙ pieces-short (f there) (base + q) (drop q w)
+    is = λ settings f end u base.
+        d .is settings f end u base
+        ∙ pieces-short settings (f there) (base + q) (drop q w)
         (u .takes there (drop q w) ∙ ap (λ (x : Bool). pieceOf (word (dash b)) x (drop q w)) t ∙ just-line (word (dash b)) (drop q w) ∙ rw (c .short));
   }
 
@@ -319,63 +320,63 @@ module _ {w : List ℕ} {p : ℕ} {b : List ℕ} {here : Bool} {q : ℕ} {there 
   passed-sought (sought.Found e) t c = record {
     on = omega (arith, d .on, c .on);
     within = c .within;
-    is = λ f end u base. record {
+    is = λ settings f end u base. record {
       on = omega (arith, d .on, c .on);
       within = c .within;
-      is = d .is f end u base ∙ ap (λ (x : Bool). pieces (f x) (base + q) (drop q w)) t ∙ c .is f end u base .is;
+      is = d .is settings f end u base ∙ ap (λ (x : Bool). pieces settings (f x) (base + q) (drop q w)) t ∙ c .is settings f end u base .is;
     };
   }
   passed-sought (sought.Waits e x) t c = record {
     on = omega (arith, d .on, c .on);
     within = c .within;
-    is = λ f end u base. d .is f end u base ∙ ap (λ (y : Bool). pieces (f y) (base + q) (drop q w)) t ∙ c .is f end u base;
+    is = λ settings f end u base. d .is settings f end u base ∙ ap (λ (y : Bool). pieces settings (f y) (base + q) (drop q w)) t ∙ c .is settings f end u base;
   }
 
 -- ---- preambles and contents
-preamble-lines : (m : Mail) (b : List ℕ) (os : List (List ℕ)) (from : ℕ) → ByLines b (inPreamble m b os from) (λ to. onPreamble m b os)
+preamble-lines : {settings : Settings} (m : Mail) (b : List ℕ) (os : List (List ℕ)) (from : ℕ) → ByLines settings b (inPreamble m b os from) (λ to. onPreamble m b os)
 unfolding takes does
 preamble-lines m b os from = record { takes = λ u s. refl; does = λ u at l. refl }
 
-content-lines : (m : Mail) (e : Encoding) (b : List ℕ) (os : List (List ℕ)) (from : ℕ)
-    → ByLines b (inContent m e b os from) (λ to. onContent m e b os from (to - from))
+content-lines : {settings : Settings} (m : Mail) (e : Encoding) (b : List ℕ) (os : List (List ℕ)) (from : ℕ)
+    → ByLines settings b (inContent m e b os from) (λ to. onContent m e b os from (to - from))
 unfolding takes does
 content-lines m e b os from = record { takes = λ u s. refl; does = λ u at l. refl }
 
-module _ {w : List ℕ} (base : ℕ) {p : ℕ} (k : List ℕ) (m : Mail) (i from : ℕ) (here : Bool) (h : i ≤ 7) (g : from ≤ base + p) (j : Begins m (base + p)) where
+module _ {settings : Settings} {w : List ℕ} (base : ℕ) {p : ℕ} (k : List ℕ) (m : Mail) (i from : ℕ) (here : Bool) (h : i ≤ 7) (g : from ≤ base + p) (j : Begins m (base + p)) where
   pub preamble-waits : {t : List ℕ} {log : Log} {q : ℕ} {there : Bool} → Waits w p (slot k i) here q there
-      → Goes w base p k t log (stateOf k (is.Preamble m i from here)) (record { phase = is.Preamble m i from there; taken = q; log = log }) t
+      → Goes settings w base p k t log (stateOf k (is.Preamble m i from here)) (record { phase = is.Preamble m i from there; taken = q; log = log }) t
   unfolding stateOf Fits lands landed pour keeps over
   preamble-waits {t} {log} {q} d = record {
     within = d .within;
     fits = (h, omega (arith, d .on), begins-later (base + q) j (omega (arith, d .on)));
-    is = sym (ap (lands base t log) (d .is (inPreamble m (slot k i) (outside k i) from) (λ to. onPreamble m (slot k i) (outside k i))
+    is = sym (ap (lands base t log) (d .is settings (inPreamble m (slot k i) (outside k i) from) (λ to. onPreamble m (slot k i) (outside k i))
         (preamble-lines m (slot k i) (outside k i) from) base));
   }
 
   pub preamble-found : {t : List ℕ} {log : Log} {e : ℕ} → Found w p (slot k i) here e
-      → Leaves w base p k t log (stateOf k (is.Preamble m i from here)) (record { phase = is.Opened m i; taken = e; log = log }) t
+      → Leaves settings w base p k t log (stateOf k (is.Preamble m i from here)) (record { phase = is.Opened m i; taken = e; log = log }) t
   unfolding stateOf Fits enter enters onPreamble
   preamble-found {t} {log} {e} d =
-      leads-still (d .is (inPreamble m (slot k i) (outside k i) from) (λ to. onPreamble m (slot k i) (outside k i))
+      leads-still (d .is settings (inPreamble m (slot k i) (outside k i) from) (λ to. onPreamble m (slot k i) (outside k i))
       (preamble-lines m (slot k i) (outside k i) from) base) refl
       (record { is = refl; fits = (h, begins-later (base + e) j (omega (arith, d .on))) })
 
   module _ (c : Encoding) where
     pub content-waits : {t : List ℕ} {log : Log} {q : ℕ} {there : Bool} → Waits w p (slot k i) here q there
-        → Goes w base p k t log (stateOf k (is.Content m c i from here)) (record { phase = is.Content m c i from there; taken = q; log = log }) t
+        → Goes settings w base p k t log (stateOf k (is.Content m c i from here)) (record { phase = is.Content m c i from there; taken = q; log = log }) t
     unfolding stateOf Fits lands landed pour keeps over
     content-waits {t} {log} {q} d = record {
       within = d .within;
       fits = (h, omega (arith, d .on), begins-later (base + q) j (omega (arith, d .on)));
-      is = sym (ap (lands base t log) (d .is (inContent m c (slot k i) (outside k i) from) (λ to. onContent m c (slot k i) (outside k i) from (to - from))
+      is = sym (ap (lands base t log) (d .is settings (inContent m c (slot k i) (outside k i) from) (λ to. onContent m c (slot k i) (outside k i) from (to - from))
           (content-lines m c (slot k i) (outside k i) from) base));
     }
 
     -- its piece: the content, and its stop
     pub content-piece : {e n : ℕ} → n ≡ length (slot k i) → Found w p (slot k i) here e
-        → Piece w base p (stateOf k (is.Content m c i from here)) e (then (whole partBody c from (base + e - from - (n + 4))) (phase.between m (slot k i) (outside k i)))
+        → Piece settings w base p (stateOf k (is.Content m c i from here)) e (then (whole partBody c from (base + e - from - (n + 4))) (phase.between m (slot k i) (outside k i)))
     unfolding stateOf onContent contentLength
-    content-piece {e} {n} l d = rw l (d .is (inContent m c (slot k i) (outside k i) from) (λ to. onContent m c (slot k i) (outside k i) from (to - from))
+    content-piece {e} {n} l d = rw l (d .is settings (inContent m c (slot k i) (outside k i) from) (λ to. onContent m c (slot k i) (outside k i) from (to - from))
         (content-lines m c (slot k i) (outside k i) from) base)
 
 pub enters-between : (k : List ℕ) (m : Mail) (i to : ℕ) → i ≤ 7 → Begins m to → Enters k (reads (phase.between m (slot k i) (outside k i))) to (is.Between m i)

@@ -39,18 +39,19 @@ use Rattle.rules.specs.Sessions.{reacts}
 use Rattle.rules.specs.Smtp.{onHello, given, bySecond, onSecond, tried, onUser, onPassword, onSender, onSeeking, byRecipient, onRecipient, onReply}
 use Rattle.rules.specs.declared.Mail.{Mail}
 use Rattle.rules.specs.declared.Mail.the-variants.{Smtp, Pop3, Imap}
+use Rattle.rules.specs.declared.Settings.{Settings}
 use Rattle.windows.proofs.Blindly.{literal-cut}
 use Rattle.windows.proofs.Courses.{taking, under-literal}
 use Rattle.windows.proofs.Piecemeal.{Comes, comes}
 use Rattle.windows.proofs.Sized.{by-bytes}
 use Rattle.windows.specs.Stands.{Stand, fresh, enter, enters, inLiteral}
 use Rattle.windows.specs.Windows.{over, keeps, landed, lands}
-use Rattle.phases.specs.Phasing.{stateOf, Fits, Enters, Piece, Leaves, Goes, TurnIs, TurnOf, overOf, RecipientIs, Lists, LinedTo, LinedLeft}
+use Rattle.phases.specs.Phasing.{CleanPasses, Halts, haltedOf, stateOf, Fits, Enters, Piece, Leaves, Goes, TurnIs, TurnOf, overOf, RecipientIs, Lists, LinedTo, LinedLeft}
 use Rattle.phases.specs.declared.Phase.{Phase}
 use Rattle.phases.specs.declared.Phase.the-variants as is
 use Rattle.phases.specs.declared.Turn.{Turn}
 use Rattle.phases.specs.declared.Turn.the-variants as turn
-use Rattle.phases.proofs.Turning.{to-end, piece-of, waits-whole, leads-written, leads-full, leads-still, leads, Looped, looped-on, looped-leaves, looped-turn}
+use Rattle.phases.proofs.Turning.{to-end, piece-of, halts, leads-written, leads-full, leads-still, leads, Looped, looped-on, looped-leaves, looped-turn}
 
 -- ---- the first line
 pub hello-yes : (at : ℕ) (l : List ℕ) → startsWithHelo l ≡ true → reacts phase.hello at l ≡ then [] phase.second
@@ -62,12 +63,12 @@ unfolding reacts onHello
 hello-not at l h = rw h
 
 -- ---- a line that is tried as sender
-module _ {w : List ℕ} {base p : ℕ} {f : Stand} {e : ℕ} (l : List ℕ) (d : Piece w base p f e (tried (base + p) l)) where
-  pub tried-none : mailFrom l ≡ Missing → Piece w base p f e (then [] phase.recipient)
+module _ {set : Settings} {w : List ℕ} {base p : ℕ} {f : Stand} {e : ℕ} (l : List ℕ) (d : Piece set w base p f e (tried (base + p) l)) where
+  pub tried-none : mailFrom l ≡ Missing → Piece set w base p f e (then [] phase.recipient)
   unfolding given
   tried-none h = rw h at d
 
-  pub tried-given : {o n : ℕ} → mailFrom l ≡ Given o n → Piece w base p f e (then (ev event.sender (base + p + o) n Unsaid ∷ []) phase.recipient)
+  pub tried-given : {o n : ℕ} → mailFrom l ≡ Given o n → Piece set w base p f e (then (ev event.sender (base + p + o) n Unsaid ∷ []) phase.recipient)
   unfolding given
   tried-given h = rw h at d
 
@@ -76,14 +77,14 @@ module _ {w : List ℕ} {base p end : ℕ} {t : List ℕ} {log : Log} where
   pub recipient-none : {a : Stop} → rcptTo (part w p end) ≡ Missing → Stopped NoRecipient (base + p) log a → RecipientIs w base p end t log (noted.Stopped a) t
   unfolding byRecipient stateOf enter Fits
   recipient-none h s = record {
-    is = λ e. record { is = λ k f d. rw (s .result, s .place, s .log) (leads-still (rw h at d) refl (record { is = refl; fits = tt })) };
+    is = λ e. record { is = λ set k f d. rw (s .result, s .place, s .log) (leads-still (rw h at d) refl (record { is = refl; fits = tt })) };
   }
 
   pub recipient-given : {o n : ℕ} {r : Noted} {u : List ℕ} → rcptTo (part w p end) ≡ Given o n
       → Notes t log (ev event.recipient (base + p + o) n Unsaid ∷ []) r u → RecipientIs w base p end t log r u
   unfolding byRecipient stateOf enter enters Fits
   recipient-given {r = r} {u} h s = record {
-    is = λ e. record { is = λ k f d. leads (rw h at d) k t log r u is.Recipient s (record { is = refl; fits = tt }) };
+    is = λ e. record { is = λ set k f d. leads (rw h at d) k t log r u is.Recipient s (record { is = refl; fits = tt }) };
   }
 
 -- ---- lines of which the clean part counts
@@ -223,61 +224,61 @@ command-lists = record {
   is = λ at l. refl;
 }
 
--- where no line is finished, or its event finds no slot, such a phase is left
-module _ {w : List ℕ} {base p : ℕ} {ph : Phase} {kind : ℕ} {t : List ℕ} {log : Log} where
-  pub lined-short : {o : Outcome} → Stops aLine w p o → p ≤ length w → LinedLeft w base p ph kind t log (turn.Stop (record { phase = ph; taken = p; log = log })) t
-  lined-short {o} d h = record { is = λ so l k. rw (l .stands k) (waits-whole {o = o} ph so (l .stands k) (rw (l .wants) d) h (l .enters k (base + p) .fits)) }
+-- where no line is finished, or it is refused, or its event finds no slot, such a phase is left
+module _ {set : Settings} {w : List ℕ} {base p : ℕ} {ph : Phase} {kind : ℕ} {t : List ℕ} {log : Log} where
+  pub lined-halts : {o : Outcome} {r : Turn} → Halts set w p o → p ≤ length w → r ≡ haltedOf o ph (base + p) p log → LinedLeft set w base p ph kind t log r t
+  lined-halts d h q = record { is = λ so l k. rw (q, l .stands k) (halts base k t log ph so (l .stands k) (l .wants) d h (l .enters k (base + p) .fits)) }
 
-  pub lined-full : {end e : ℕ} {a : Stop} {u : List ℕ} {r : Turn} → Cleaned w p end e → Full t log (ev kind (base + p) (end - p) Unsaid ∷ []) a u → r ≡ overOf a e
-      → LinedLeft w base p ph kind t log r u
+  pub lined-full : {end e : ℕ} {a : Stop} {u : List ℕ} {r : Turn} → CleanPasses set w p end e → Full t log (ev kind (base + p) (end - p) Unsaid ∷ []) a u → r ≡ overOf a e
+      → LinedLeft set w base p ph kind t log r u
   lined-full {e = e} d n q = record {
     is = λ so l k.
         rw (q, l .stands k)
-        (leads-full (piece-of so (rw (l .wants) (d .ends)) refl) (l .behind (base + p) (part w p e)) (l .is (base + p) (part w p e)) (rw (clean-length d) at n));
+        (leads-full (piece-of so (rw (l .wants) (d .line .ends)) (rw (l .wants) (d .passes)) refl) (l .behind (base + p) (part w p e)) (l .is (base + p) (part w p e)) (rw (clean-length (d .line)) at n));
   }
 
 -- a loop over the lines of such a phase: what is left at p is what was left at a
-module _ {w : List ℕ} {base a : ℕ} {t₀ : List ℕ} {log₀ : Log} {so : phase.Phase} {p : ℕ} {t : List ℕ} {log : Log} {ph : Phase} {kind : ℕ}
-    (c : Looped w base a t₀ log₀ (fresh (reads so)) p t log) (l : Lists ph kind so) where
+module _ {set : Settings} {w : List ℕ} {base a : ℕ} {t₀ : List ℕ} {log₀ : Log} {so : phase.Phase} {p : ℕ} {t : List ℕ} {log : Log} {ph : Phase} {kind : ℕ}
+    (c : Looped set w base a t₀ log₀ (fresh (reads so)) p t log) (l : Lists ph kind so) where
   -- the phase is left
-  pub lined-left : {r : Turn} {u : List ℕ} → LinedLeft w base p ph kind t log r u → (k : List ℕ) → TurnOf w base a k t₀ log₀ ph r u
+  pub lined-left : {r : Turn} {u : List ℕ} → LinedLeft set w base p ph kind t log r u → (k : List ℕ) → TurnOf set w base a k t₀ log₀ ph r u
   lined-left {r} {u} d k =
-      let here : TurnIs w base p k t log (fresh (reads so)) r u = rw (l .stands k) at (d .is so l k) in
+      let here : TurnIs set w base p k t log (fresh (reads so)) r u = rw (l .stands k) at (d .is so l k) in
       rw (l .stands k) (looped-turn c k u r here)
 
-  module _ {end e : ℕ} {next : Log} {u : List ℕ} (d : LinedTo w base p kind t log end e next u) where
+  module _ {end e : ℕ} {next : Log} {u : List ℕ} (d : LinedTo set w base p kind t log end e next u) where
     -- behind a line that is listed: another phase
     pub lined-leads : {st : State} {there : Phase} → reacts so (base + p) (part w p e) ≡ record { events = ev kind (base + p) (end - p) Unsaid ∷ []; next = st }
-        → (k : List ℕ) → Enters k st (base + e) there → Leaves w base a k t₀ log₀ (stateOf k ph) (record { phase = there; taken = e; log = next }) u
-    lined-leads q k g = rw (l .stands k) (looped-leaves c (leads-written (piece-of so (rw (l .wants) (d .line .ends)) q) (d .written) g))
+        → (k : List ℕ) → Enters k st (base + e) there → Leaves set w base a k t₀ log₀ (stateOf k ph) (record { phase = there; taken = e; log = next }) u
+    lined-leads q k g = rw (l .stands k) (looped-leaves c (leads-written (piece-of so (rw (l .wants) (d .line .ends)) (rw (l .wants) (d .passes)) q) (d .written) g))
 
     -- or another line
     pub lined-on : reacts so (base + p) (part w p e) ≡ then (ev kind (base + p) (end - p) Unsaid ∷ []) so → length u ≡ length t
-        → Looped w base a t₀ log₀ (fresh (reads so)) e u next
-    lined-on q n = looped-on c (piece-of so (rw (l .wants) (d .line .ends)) q) (d .written) (sym (l .enters [] (base + e) .is) ∙ l .stands []) n
+        → Looped set w base a t₀ log₀ (fresh (reads so)) e u next
+    lined-on q n = looped-on c (piece-of so (rw (l .wants) (d .line .ends)) (rw (l .wants) (d .passes)) q) (d .written) (sym (l .enters [] (base + e) .is) ∙ l .stands []) n
 
 -- ---- a literal: left + 1 bytes, or as many of them as are shown
-pub literal-piece : (base : ℕ) {w : List ℕ} {p : ℕ} (c : Encoding) (from left : ℕ) → p + left + 1 ≤ length w
-    → Piece w base p (inLiteral c from left) (p + left + 1) (onLiteral c from (base + (p + left + 1) - from))
+pub literal-piece : {set : Settings} (base : ℕ) {w : List ℕ} {p : ℕ} (c : Encoding) (from left : ℕ) → p + left + 1 ≤ length w
+    → Piece set w base p (inLiteral c from left) (p + left + 1) (onLiteral c from (base + (p + left + 1) - from))
 unfolding Comes reach
-literal-piece base {w} {p} c from left h =
+literal-piece {set} base {w} {p} c from left h =
     let z : p + (left + 1) ≡ p + left + 1 = omega arith in
     let l : ltb left (length (drop p w)) ≡ true = lt-ltb left (length (drop p w)) (omega (arith, length-drop p w)) in
     let d : Ends (bytes left) w p (p + left + 1) = rw z at (ends-at (bytes left) w p (left + 1) (omega arith) (rw l)) in
     record {
       on = omega arith;
       within = h;
-      is = rw (← (to-end base d)) (rw (d .is) at (comes taking by-bytes (under-literal c from) left (base + p) (drop p w)));
+      is = rw (← (to-end base d)) (rw (d .is) at (comes set taking by-bytes (under-literal set c from) left (base + p) (drop p w)));
     }
 
-pub literal-waits : {w : List ℕ} {base p : ℕ} {k t : List ℕ} {log : Log} (c : Encoding) (from left : ℕ) → p ≤ length w → length w - p ≤ left → from ≤ base + p
-    → Goes w base p k t log (inLiteral c from left) (record { phase = is.Literal c from (left - (length w - p)); taken = length w; log = log }) t
+pub literal-waits : {set : Settings} {w : List ℕ} {base p : ℕ} {k t : List ℕ} {log : Log} (c : Encoding) (from left : ℕ) → p ≤ length w → length w - p ≤ left → from ≤ base + p
+    → Goes set w base p k t log (inLiteral c from left) (record { phase = is.Literal c from (left - (length w - p)); taken = length w; log = log }) t
 unfolding stateOf Fits lands pour landed keeps over
-literal-waits {w} {base} {p} {k} {t} {log} c from left h g f =
+literal-waits {set} {w} {base} {p} {k} {t} {log} c from left h g f =
     let n : length (drop p w) ≡ length w - p = length-drop p w in
     let z : base + length w ≡ base + p + (length w - p) = omega arith in
     record {
       within = omega arith;
       fits = omega arith;
-      is = sym (ap (lands base t log) (literal-cut c from left (base + p) (drop p w) (omega (arith, n))) ∙ rw (n, z));
+      is = sym (ap (lands base t log) (literal-cut set c from left (base + p) (drop p w) (omega (arith, n))) ∙ rw (n, z));
     }

@@ -7,6 +7,8 @@ ghost use Rattle.phases.specs.Phasing.{TurnOf};
 use crate::Phase;
 use crate::Spot;
 use crate::Turn;
+use crate::strict::halted;
+use crate::strict::line;
 use crate::turns::after_mail;
 use crate::turns::onward;
 use crate::turns::over;
@@ -18,11 +20,12 @@ use events::SIZED_BODY;
 use reads::Noted;
 use reads::Read;
 use reads::hold;
-use reads::line;
 use reads::note;
 use rules::Mail;
+use rules::Settings;
 
 pub fn text(
+    settings: Settings,
     w: &[u8],
     base: usize,
     at: usize,
@@ -32,16 +35,14 @@ pub fn text(
     log: Log,
 ) -> Turn
     requires { ⌜ (base + length (now w) ≤ limit) × (at ≤ length (now w)) ⌝ }
-    ensures { λ r. ⌜ ((k : List ℕ) → TurnOf (now (w .entry)) base at k (now (table .entry)) log (Phase.Text mail encoding) r (now (table .exit))) ⌝ }
+    ensures { λ r. ⌜ ((k : List ℕ) → TurnOf settings (now (w .entry)) base at k (now (table .entry)) log (Phase.Text mail encoding) r (now (table .exit))) ⌝ }
 {
     let mut p = at;
     let mut log = log;
     loop {
-        match line(w, p) {
-            Read::Stop(_) => {
-                let phase = Phase::Text(mail, encoding);
-                let taken = p;
-                return Turn::Stop(Spot { phase, taken, log });
+        match line(settings, w, p) {
+            Read::Stop(o) => {
+                return halted(o, Phase::Text(mail, encoding), base, p, log);
             }
             Read::To(e) => {
                 if reading::equals(&w[p..e], b".\r\n") {
@@ -74,7 +75,7 @@ pub fn literal(
     log: Log,
 ) -> Turn
     requires { ⌜ (base + length (now w) ≤ limit) × (p ≤ length (now w)) × (from ≤ base + p) ⌝ }
-    ensures { λ r. ⌜ ((k : List ℕ) → TurnOf (now (w .entry)) base p k (now (table .entry)) log (Phase.Literal encoding from left) r (now (table .exit))) ⌝ }
+    ensures { λ r. ⌜ ((set : Settings) (k : List ℕ) → TurnOf set (now (w .entry)) base p k (now (table .entry)) log (Phase.Literal encoding from left) r (now (table .exit))) ⌝ }
 {
     let shown = (w.len() - p) as u64;
     if shown <= left {

@@ -9,6 +9,9 @@ ghost use Rattle.phases.specs.Phasing.{TurnOf, Follows, RecipientIs};
 use crate::Phase;
 use crate::Spot;
 use crate::Turn;
+use crate::strict::clean_line;
+use crate::strict::halted;
+use crate::strict::line;
 use crate::turns::onward;
 use crate::turns::over;
 use crate::turns::unheard;
@@ -30,22 +33,17 @@ use fields::smtp::starts_with_helo;
 use reads::Clean;
 use reads::Noted;
 use reads::Read;
-use reads::clean_line;
-use reads::line;
 use reads::note;
 use reads::stopped;
 use rules::Mail;
+use rules::Settings;
 
-pub fn hello(w: &[u8], base: usize, p: usize, log: Log) -> Turn
+pub fn hello(settings: Settings, w: &[u8], base: usize, p: usize, log: Log) -> Turn
     requires { ⌜ (base + length (now w) ≤ limit) × (p ≤ length (now w)) ⌝ }
-    ensures { λ r. ⌜ ((k t : List ℕ) → TurnOf (now (w .entry)) base p k t log Phase.Hello r t) ⌝ }
+    ensures { λ r. ⌜ ((k t : List ℕ) → TurnOf settings (now (w .entry)) base p k t log Phase.Hello r t) ⌝ }
 {
-    match line(w, p) {
-        Read::Stop(_) => Turn::Stop(Spot {
-            phase: Phase::Hello,
-            taken: p,
-            log,
-        }),
+    match line(settings, w, p) {
+        Read::Stop(o) => halted(o, Phase::Hello, base, p, log),
         Read::To(e) => {
             if starts_with_helo(&w[p..e]) {
                 return Turn::On(Spot {
@@ -63,16 +61,19 @@ pub fn hello(w: &[u8], base: usize, p: usize, log: Log) -> Turn
     }
 }
 
-pub fn second(w: &[u8], base: usize, p: usize, table: &mut [u32], log: Log) -> Turn
+pub fn second(
+    settings: Settings,
+    w: &[u8],
+    base: usize,
+    p: usize,
+    table: &mut [u32],
+    log: Log,
+) -> Turn
     requires { ⌜ (base + length (now w) ≤ limit) × (p ≤ length (now w)) ⌝ }
-    ensures { λ r. ⌜ ((k : List ℕ) → TurnOf (now (w .entry)) base p k (now (table .entry)) log Phase.Second r (now (table .exit))) ⌝ }
+    ensures { λ r. ⌜ ((k : List ℕ) → TurnOf settings (now (w .entry)) base p k (now (table .entry)) log Phase.Second r (now (table .exit))) ⌝ }
 {
-    match clean_line(w, p) {
-        Clean::Stop(_) => Turn::Stop(Spot {
-            phase: Phase::Second,
-            taken: p,
-            log,
-        }),
+    match clean_line(settings, w, p) {
+        Clean::Stop(o) => halted(o, Phase::Second, base, p, log),
         Clean::To(end, e) => match second_line(&w[p..end]) {
             Second::StartTls => Turn::On(Spot {
                 phase: Phase::Over(Outcome::StartTls, base + p),
@@ -112,16 +113,19 @@ fn tried(w: &[u8], base: usize, p: usize, end: usize, e: usize, table: &mut [u32
     }
 }
 
-pub fn user(w: &[u8], base: usize, p: usize, table: &mut [u32], log: Log) -> Turn
+pub fn user(
+    settings: Settings,
+    w: &[u8],
+    base: usize,
+    p: usize,
+    table: &mut [u32],
+    log: Log,
+) -> Turn
     requires { ⌜ (base + length (now w) ≤ limit) × (p ≤ length (now w)) ⌝ }
-    ensures { λ r. ⌜ ((k : List ℕ) → TurnOf (now (w .entry)) base p k (now (table .entry)) log Phase.User r (now (table .exit))) ⌝ }
+    ensures { λ r. ⌜ ((k : List ℕ) → TurnOf settings (now (w .entry)) base p k (now (table .entry)) log Phase.User r (now (table .exit))) ⌝ }
 {
-    match clean_line(w, p) {
-        Clean::Stop(_) => Turn::Stop(Spot {
-            phase: Phase::User,
-            taken: p,
-            log,
-        }),
+    match clean_line(settings, w, p) {
+        Clean::Stop(o) => halted(o, Phase::User, base, p, log),
         Clean::To(end, e) => {
             let noted = note(table, log, USER, base + p, end - p, Encoding::Unsaid);
             onward(noted, Phase::Password, e)
@@ -129,16 +133,19 @@ pub fn user(w: &[u8], base: usize, p: usize, table: &mut [u32], log: Log) -> Tur
     }
 }
 
-pub fn password(w: &[u8], base: usize, p: usize, table: &mut [u32], log: Log) -> Turn
+pub fn password(
+    settings: Settings,
+    w: &[u8],
+    base: usize,
+    p: usize,
+    table: &mut [u32],
+    log: Log,
+) -> Turn
     requires { ⌜ (base + length (now w) ≤ limit) × (p ≤ length (now w)) ⌝ }
-    ensures { λ r. ⌜ ((k : List ℕ) → TurnOf (now (w .entry)) base p k (now (table .entry)) log Phase.Password r (now (table .exit))) ⌝ }
+    ensures { λ r. ⌜ ((k : List ℕ) → TurnOf settings (now (w .entry)) base p k (now (table .entry)) log Phase.Password r (now (table .exit))) ⌝ }
 {
-    match clean_line(w, p) {
-        Clean::Stop(_) => Turn::Stop(Spot {
-            phase: Phase::Password,
-            taken: p,
-            log,
-        }),
+    match clean_line(settings, w, p) {
+        Clean::Stop(o) => halted(o, Phase::Password, base, p, log),
         Clean::To(end, e) => {
             let noted = note(table, log, PASSWORD, base + p, end - p, Encoding::Unsaid);
             onward(noted, Phase::Sender, e)
@@ -146,34 +153,40 @@ pub fn password(w: &[u8], base: usize, p: usize, table: &mut [u32], log: Log) ->
     }
 }
 
-pub fn sender(w: &[u8], base: usize, p: usize, table: &mut [u32], log: Log) -> Turn
+pub fn sender(
+    settings: Settings,
+    w: &[u8],
+    base: usize,
+    p: usize,
+    table: &mut [u32],
+    log: Log,
+) -> Turn
     requires { ⌜ (base + length (now w) ≤ limit) × (p ≤ length (now w)) ⌝ }
-    ensures { λ r. ⌜ ((k : List ℕ) → TurnOf (now (w .entry)) base p k (now (table .entry)) log Phase.Sender r (now (table .exit))) ⌝ }
+    ensures { λ r. ⌜ ((k : List ℕ) → TurnOf settings (now (w .entry)) base p k (now (table .entry)) log Phase.Sender r (now (table .exit))) ⌝ }
 {
-    match clean_line(w, p) {
-        Clean::Stop(_) => Turn::Stop(Spot {
-            phase: Phase::Sender,
-            taken: p,
-            log,
-        }),
+    match clean_line(settings, w, p) {
+        Clean::Stop(o) => halted(o, Phase::Sender, base, p, log),
         Clean::To(end, e) => tried(w, base, p, end, e, table, log),
     }
 }
 
 // Lines up to one that begins MAIL FROM:, and that is tried.
-pub fn seeking(w: &[u8], base: usize, at: usize, table: &mut [u32], log: Log) -> Turn
+pub fn seeking(
+    settings: Settings,
+    w: &[u8],
+    base: usize,
+    at: usize,
+    table: &mut [u32],
+    log: Log,
+) -> Turn
     requires { ⌜ (base + length (now w) ≤ limit) × (at ≤ length (now w)) ⌝ }
-    ensures { λ r. ⌜ ((k : List ℕ) → TurnOf (now (w .entry)) base at k (now (table .entry)) log Phase.Seeking r (now (table .exit))) ⌝ }
+    ensures { λ r. ⌜ ((k : List ℕ) → TurnOf settings (now (w .entry)) base at k (now (table .entry)) log Phase.Seeking r (now (table .exit))) ⌝ }
 {
     let mut p = at;
     loop {
-        match clean_line(w, p) {
-            Clean::Stop(_) => {
-                return Turn::Stop(Spot {
-                    phase: Phase::Seeking,
-                    taken: p,
-                    log,
-                });
+        match clean_line(settings, w, p) {
+            Clean::Stop(o) => {
+                return halted(o, Phase::Seeking, base, p, log);
             }
             Clean::To(end, e) => {
                 if is_mail_from(&w[p..end]) {
@@ -186,20 +199,23 @@ pub fn seeking(w: &[u8], base: usize, at: usize, table: &mut [u32], log: Log) ->
 }
 
 // Recipients, up to DATA.
-pub fn recipients(w: &[u8], base: usize, at: usize, table: &mut [u32], log: Log) -> Turn
+pub fn recipients(
+    settings: Settings,
+    w: &[u8],
+    base: usize,
+    at: usize,
+    table: &mut [u32],
+    log: Log,
+) -> Turn
     requires { ⌜ (base + length (now w) ≤ limit) × (at ≤ length (now w)) ⌝ }
-    ensures { λ r. ⌜ ((k : List ℕ) → TurnOf (now (w .entry)) base at k (now (table .entry)) log Phase.Recipient r (now (table .exit))) ⌝ }
+    ensures { λ r. ⌜ ((k : List ℕ) → TurnOf settings (now (w .entry)) base at k (now (table .entry)) log Phase.Recipient r (now (table .exit))) ⌝ }
 {
     let mut p = at;
     let mut n = log;
     loop {
-        match clean_line(w, p) {
-            Clean::Stop(_) => {
-                return Turn::Stop(Spot {
-                    phase: Phase::Recipient,
-                    taken: p,
-                    log: n,
-                });
+        match clean_line(settings, w, p) {
+            Clean::Stop(o) => {
+                return halted(o, Phase::Recipient, base, p, n);
             }
             Clean::To(end, e) => {
                 if is_data(&w[p..end]) {

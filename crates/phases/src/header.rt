@@ -8,11 +8,12 @@ ghost use Rattle.reads.specs.Contracts.{Begins};
 ghost use Rattle.phases.specs.Phasing.{HeadIs, Learns, BegunIs, DeeperIs, Slots, behindOf};
 use crate::Heard;
 use crate::Phase;
-use crate::Spot;
 use crate::Turn;
 use crate::copies::LONGEST;
 use crate::copies::keep;
 use crate::copies::length_at;
+use crate::strict::halted;
+use crate::strict::line;
 use crate::turns::onward;
 use crate::turns::over;
 use events::BODY_START;
@@ -25,9 +26,9 @@ use fields::common::Bdry;
 use fields::common::Scan;
 use reads::Noted;
 use reads::Read;
-use reads::line;
 use reads::note;
 use rules::Mail;
+use rules::Settings;
 
 const LEVELS: usize = 8;
 
@@ -38,6 +39,7 @@ pub struct Begun {
 }
 
 pub fn head(
+    settings: Settings,
     w: &[u8],
     base: usize,
     at: usize,
@@ -49,17 +51,15 @@ pub fn head(
     log: Log,
 ) -> Turn
     requires { ⌜ (base + length (now w) ≤ limit) × (at ≤ length (now w)) × (level ≤ 8) × Slots (now kept) × Begins mail (base + at) ⌝ }
-    ensures { λ r. ⌜ HeadIs (now (w .entry)) base at (now (kept .entry)) (now (table .entry)) log (Phase.Head mail heard level) r (now (kept .exit)) (now (table .exit)) ⌝ }
+    ensures { λ r. ⌜ HeadIs settings (now (w .entry)) base at (now (kept .entry)) (now (table .entry)) log (Phase.Head mail heard level) r (now (kept .exit)) (now (table .exit)) ⌝ }
 {
     let mut p = at;
     let mut log = log;
     let mut known = heard;
     loop {
-        match line(w, p) {
-            Read::Stop(_) => {
-                let phase = Phase::Head(mail, known, level);
-                let taken = p;
-                return Turn::Stop(Spot { phase, taken, log });
+        match line(settings, w, p) {
+            Read::Stop(o) => {
+                return halted(o, Phase::Head(mail, known, level), base, p, log);
             }
             Read::To(e) => match note(table, log, HEADER_LINE, base + p, e - p, Encoding::Unsaid) {
                 Noted::Stopped(a) => {

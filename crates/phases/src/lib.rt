@@ -12,6 +12,7 @@ use events::Encoding;
 use events::Log;
 use events::Outcome;
 use rules::Mail;
+use rules::Settings;
 
 mod bodies;
 mod copies;
@@ -19,6 +20,7 @@ mod envelope;
 mod header;
 mod lines;
 mod parts;
+mod strict;
 mod turns;
 
 // What is read next, with what that needs to know: a mail, the literal's rest, the level, where a body began. Where a session is over, its result and place.
@@ -68,13 +70,20 @@ pub enum Turn {
 }
 
 // Phases up to the window's end.
-pub fn advance(spot: Spot, w: &[u8], base: usize, kept: &mut [u8], table: &mut [u32]) -> Spot
+pub fn advance(
+    settings: Settings,
+    spot: Spot,
+    w: &[u8],
+    base: usize,
+    kept: &mut [u8],
+    table: &mut [u32],
+) -> Spot
     requires { ⌜ (base + length (now w) ≤ limit) × Ready (now w) base (now kept) spot ⌝ }
-    ensures { λ r. ⌜ Went (now (w .entry)) base (now (kept .entry)) (now (table .entry)) spot (now (kept .exit)) r (now (table .exit)) ⌝ }
+    ensures { λ r. ⌜ Went settings (now (w .entry)) base (now (kept .entry)) (now (table .entry)) spot (now (kept .exit)) r (now (table .exit)) ⌝ }
 {
     let mut now = spot;
     loop {
-        match one_phase(now, w, base, kept, table) {
+        match one_phase(settings, now, w, base, kept, table) {
             Turn::On(next) => {
                 now = next;
             }
@@ -85,30 +94,46 @@ pub fn advance(spot: Spot, w: &[u8], base: usize, kept: &mut [u8], table: &mut [
     }
 }
 
-fn one_phase(spot: Spot, w: &[u8], base: usize, kept: &mut [u8], table: &mut [u32]) -> Turn
+fn one_phase(
+    settings: Settings,
+    spot: Spot,
+    w: &[u8],
+    base: usize,
+    kept: &mut [u8],
+    table: &mut [u32],
+) -> Turn
     requires { ⌜ (base + length (now w) ≤ limit) × Ready (now w) base (now kept) spot ⌝ }
-    ensures { λ r. ⌜ Turned (now (w .entry)) base (now (kept .entry)) (now (table .entry)) spot (now (kept .exit)) r (now (table .exit)) ⌝ }
+    ensures { λ r. ⌜ Turned settings (now (w .entry)) base (now (kept .entry)) (now (table .entry)) spot (now (kept .exit)) r (now (table .exit)) ⌝ }
 {
     let phase = spot.phase;
     let p = spot.taken;
     let log = spot.log;
     match phase {
-        Phase::Hello => envelope::hello(w, base, p, log),
-        Phase::Second => envelope::second(w, base, p, table, log),
-        Phase::User => envelope::user(w, base, p, table, log),
-        Phase::Password => envelope::password(w, base, p, table, log),
-        Phase::Sender => envelope::sender(w, base, p, table, log),
-        Phase::Seeking => envelope::seeking(w, base, p, table, log),
-        Phase::Recipient => envelope::recipients(w, base, p, table, log),
-        Phase::Reply => lines::replies(w, base, p, table, log),
-        Phase::Status => lines::statuses(w, base, p, table, log),
-        Phase::Command => lines::commands(w, base, p, table, log),
-        Phase::Offered(size) => lines::offered(w, base, p, size, kept, table, log),
+        Phase::Hello => envelope::hello(settings, w, base, p, log),
+        Phase::Second => envelope::second(settings, w, base, p, table, log),
+        Phase::User => envelope::user(settings, w, base, p, table, log),
+        Phase::Password => envelope::password(settings, w, base, p, table, log),
+        Phase::Sender => envelope::sender(settings, w, base, p, table, log),
+        Phase::Seeking => envelope::seeking(settings, w, base, p, table, log),
+        Phase::Recipient => envelope::recipients(settings, w, base, p, table, log),
+        Phase::Reply => lines::replies(settings, w, base, p, table, log),
+        Phase::Status => lines::statuses(settings, w, base, p, table, log),
+        Phase::Command => lines::commands(settings, w, base, p, table, log),
+        Phase::Offered(size) => lines::offered(settings, w, base, p, size, kept, table, log),
         Phase::Closing => lines::closing(w, base, p, log),
         Phase::Head(mail, heard, level) => {
-            header::head(w, base, p, mail, heard, level, kept, table, log)
+            header::head(settings, w, base, p, mail, heard, level, kept, table, log)
         }
-        Phase::Text(mail, encoding) => bodies::text(w, base, p, mail, encoding, table, log),
+        Phase::Text(mail, encoding) => bodies::text(
+            settings,
+            w,
+            base,
+            p,
+            mail,
+            encoding,
+            table,
+            log,
+        ),
         Phase::Literal(encoding, from, left) => {
             bodies::literal(w, base, p, encoding, from, left, table, log)
         }
@@ -120,7 +145,16 @@ fn one_phase(spot: Spot, w: &[u8], base: usize, kept: &mut [u8], table: &mut [u3
             parts::content(w, base, p, mail, said, level, from, here, kept, table, log)
         }
         Phase::Between(mail, level) => parts::between(w, base, p, mail, level, kept, log),
-        Phase::Skipping(mail, level) => parts::skipping(w, base, p, mail, level, kept, log),
+        Phase::Skipping(mail, level) => parts::skipping(
+            settings,
+            w,
+            base,
+            p,
+            mail,
+            level,
+            kept,
+            log,
+        ),
         Phase::Resting(mail, level, left) => parts::resting(w, base, p, mail, level, left, log),
         Phase::Over(result, place) => ended(result, place, p, log),
     }

@@ -8,6 +8,8 @@ use crate::Phase;
 use crate::Spot;
 use crate::Turn;
 use crate::header::head;
+use crate::strict::clean_line;
+use crate::strict::halted;
 use crate::turns::over;
 use crate::turns::unheard;
 use events::CLIENT_LINE;
@@ -24,11 +26,10 @@ use reads::Clean;
 use reads::Noted;
 use reads::Read;
 use reads::Two;
-use reads::clean_line;
-use reads::line;
 use reads::note;
 use reads::two_bytes;
 use rules::Mail;
+use rules::Settings;
 
 // A line listed clean: where its clean part ends, and where the line does; or the phase is left.
 pub enum Lined {
@@ -37,14 +38,21 @@ pub enum Lined {
 }
 
 // Up to a line that begins 221.
-pub fn replies(w: &[u8], base: usize, at: usize, table: &mut [u32], log: Log) -> Turn
+pub fn replies(
+    settings: Settings,
+    w: &[u8],
+    base: usize,
+    at: usize,
+    table: &mut [u32],
+    log: Log,
+) -> Turn
     requires { ⌜ (base + length (now w) ≤ limit) × (at ≤ length (now w)) ⌝ }
-    ensures { λ r. ⌜ ((k : List ℕ) → TurnOf (now (w .entry)) base at k (now (table .entry)) log Phase.Reply r (now (table .exit))) ⌝ }
+    ensures { λ r. ⌜ ((k : List ℕ) → TurnOf settings (now (w .entry)) base at k (now (table .entry)) log Phase.Reply r (now (table .exit))) ⌝ }
 {
     let mut p = at;
     let mut n = log;
     loop {
-        match note_line(w, base, p, Phase::Reply, SERVER_LINE, table, n) {
+        match note_line(settings, w, base, p, Phase::Reply, SERVER_LINE, table, n) {
             Lined::Left(turn) => {
                 return turn;
             }
@@ -64,14 +72,21 @@ pub fn replies(w: &[u8], base: usize, at: usize, table: &mut [u32], log: Log) ->
 }
 
 // Up to a TLS answer or a retrieval.
-pub fn statuses(w: &[u8], base: usize, at: usize, table: &mut [u32], log: Log) -> Turn
+pub fn statuses(
+    settings: Settings,
+    w: &[u8],
+    base: usize,
+    at: usize,
+    table: &mut [u32],
+    log: Log,
+) -> Turn
     requires { ⌜ (base + length (now w) ≤ limit) × (at ≤ length (now w)) ⌝ }
-    ensures { λ r. ⌜ ((k : List ℕ) → TurnOf (now (w .entry)) base at k (now (table .entry)) log Phase.Status r (now (table .exit))) ⌝ }
+    ensures { λ r. ⌜ ((k : List ℕ) → TurnOf settings (now (w .entry)) base at k (now (table .entry)) log Phase.Status r (now (table .exit))) ⌝ }
 {
     let mut p = at;
     let mut n = log;
     loop {
-        match note_line(w, base, p, Phase::Status, SERVER_LINE, table, n) {
+        match note_line(settings, w, base, p, Phase::Status, SERVER_LINE, table, n) {
             Lined::Left(turn) => {
                 return turn;
             }
@@ -98,14 +113,21 @@ pub fn statuses(w: &[u8], base: usize, at: usize, table: &mut [u32], log: Log) -
 }
 
 // Up to an append.
-pub fn commands(w: &[u8], base: usize, at: usize, table: &mut [u32], log: Log) -> Turn
+pub fn commands(
+    settings: Settings,
+    w: &[u8],
+    base: usize,
+    at: usize,
+    table: &mut [u32],
+    log: Log,
+) -> Turn
     requires { ⌜ (base + length (now w) ≤ limit) × (at ≤ length (now w)) ⌝ }
-    ensures { λ r. ⌜ ((k : List ℕ) → TurnOf (now (w .entry)) base at k (now (table .entry)) log Phase.Command r (now (table .exit))) ⌝ }
+    ensures { λ r. ⌜ ((k : List ℕ) → TurnOf settings (now (w .entry)) base at k (now (table .entry)) log Phase.Command r (now (table .exit))) ⌝ }
 {
     let mut p = at;
     let mut n = log;
     loop {
-        match note_line(w, base, p, Phase::Command, CLIENT_LINE, table, n) {
+        match note_line(settings, w, base, p, Phase::Command, CLIENT_LINE, table, n) {
             Lined::Left(turn) => {
                 return turn;
             }
@@ -126,6 +148,7 @@ pub fn commands(w: &[u8], base: usize, at: usize, table: &mut [u32], log: Log) -
 
 // A clean line, listed. The phase, which lists each of its lines, is left where none is finished, or where the table is full.
 fn note_line(
+    settings: Settings,
     w: &[u8],
     base: usize,
     p: usize,
@@ -135,14 +158,10 @@ fn note_line(
     log: Log,
 ) -> Lined
     requires { ⌜ (base + length (now w) ≤ limit) × (p ≤ length (now w)) ⌝ }
-    ensures { λ r. ⌜ LinedIs (now (w .entry)) base p phase kind (now (table .entry)) log r (now (table .exit)) ⌝ }
+    ensures { λ r. ⌜ LinedIs settings (now (w .entry)) base p phase kind (now (table .entry)) log r (now (table .exit)) ⌝ }
 {
-    match clean_line(w, p) {
-        Clean::Stop(_) => Lined::Left(Turn::Stop(Spot {
-            phase,
-            taken: p,
-            log,
-        })),
+    match clean_line(settings, w, p) {
+        Clean::Stop(o) => Lined::Left(halted(o, phase, base, p, log)),
         Clean::To(end, e) => {
             match note(table, log, kind, base + p, end - p, Encoding::Unsaid) {
                 Noted::Stopped(a) => Lined::Left(over(a, e)),
@@ -154,6 +173,7 @@ fn note_line(
 
 // Behind an append: a mail of so many bytes if the line, only peeked at, holds a colon; else a command.
 pub fn offered(
+    settings: Settings,
     w: &[u8],
     base: usize,
     p: usize,
@@ -163,9 +183,9 @@ pub fn offered(
     log: Log,
 ) -> Turn
     requires { ⌜ (base + length (now w) ≤ limit) × (p ≤ length (now w)) × Slots (now kept) ⌝ }
-    ensures { λ r. ⌜ HeadIs (now (w .entry)) base p (now (kept .entry)) (now (table .entry)) log (Phase.Offered size) r (now (kept .exit)) (now (table .exit)) ⌝ }
+    ensures { λ r. ⌜ HeadIs settings (now (w .entry)) base p (now (kept .entry)) (now (table .entry)) log (Phase.Offered size) r (now (kept .exit)) (now (table .exit)) ⌝ }
 {
-    match line(w, p) {
+    match reads::line(w, p) {
         Read::Stop(_) => Turn::Stop(Spot {
             phase: Phase::Offered(size),
             taken: p,
@@ -174,9 +194,9 @@ pub fn offered(
         Read::To(e) => {
             if has_colon(&w[p..e]) {
                 let mail = Mail::Imap(size, base + p);
-                return head(w, base, p, mail, unheard(), 0, kept, table, log);
+                return head(settings, w, base, p, mail, unheard(), 0, kept, table, log);
             }
-            commands(w, base, p, table, log)
+            commands(settings, w, base, p, table, log)
         }
     }
 }
@@ -184,7 +204,7 @@ pub fn offered(
 // The two bytes behind a literal.
 pub fn closing(w: &[u8], base: usize, p: usize, log: Log) -> Turn
     requires { ⌜ (base + length (now w) ≤ limit) × (p ≤ length (now w)) ⌝ }
-    ensures { λ r. ⌜ ((k t : List ℕ) → TurnOf (now (w .entry)) base p k t log Phase.Closing r t) ⌝ }
+    ensures { λ r. ⌜ ((set : Settings) (k t : List ℕ) → TurnOf set (now (w .entry)) base p k t log Phase.Closing r t) ⌝ }
 {
     match two_bytes(w, p) {
         Two::Stop(_) => Turn::Stop(Spot {

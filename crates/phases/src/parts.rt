@@ -14,6 +14,8 @@ use crate::Spot;
 use crate::Turn;
 use crate::copies::SLOT;
 use crate::copies::length_at;
+use crate::strict::halted;
+use crate::strict::line;
 use crate::turns::onward;
 use crate::turns::popped;
 use crate::turns::unheard;
@@ -25,9 +27,9 @@ use reading::Place;
 use reads::Read;
 use reads::Two;
 use reads::hold;
-use reads::line;
 use reads::two_bytes;
 use rules::Mail;
+use rules::Settings;
 
 // Up to the place behind a delimiter; or up to where no line is finished, and whether a delimiter may stand there.
 pub enum Sought {
@@ -47,7 +49,7 @@ pub fn preamble(
     log: Log,
 ) -> Turn
     requires { ⌜ (base + length (now w) ≤ limit) × (p ≤ length (now w)) × (level ≤ 7) × (from ≤ base + p) × Slots (now kept) × Begins mail (base + p) ⌝ }
-    ensures { λ r. ⌜ ((t : List ℕ) → TurnOf (now (w .entry)) base p (now (kept .entry)) t log (Phase.Preamble mail level from here) r t) ⌝ }
+    ensures { λ r. ⌜ ((set : Settings) (t : List ℕ) → TurnOf set (now (w .entry)) base p (now (kept .entry)) t log (Phase.Preamble mail level from here) r t) ⌝ }
 {
     let first = level * SLOT + 1;
     let end = first + length_at(kept, level);
@@ -71,7 +73,7 @@ pub fn preamble(
 // The two bytes behind a preamble's delimiter.
 pub fn opened(w: &[u8], base: usize, p: usize, mail: Mail, level: usize, log: Log) -> Turn
     requires { ⌜ (base + length (now w) ≤ limit) × (p ≤ length (now w)) × (level ≤ 7) × Begins mail (base + p) ⌝ }
-    ensures { λ r. ⌜ ((k t : List ℕ) → TurnOf (now (w .entry)) base p k t log (Phase.Opened mail level) r t) ⌝ }
+    ensures { λ r. ⌜ ((set : Settings) (k t : List ℕ) → TurnOf set (now (w .entry)) base p k t log (Phase.Opened mail level) r t) ⌝ }
 {
     match two_bytes(w, p) {
         Two::Stop(_) => Turn::Stop(Spot {
@@ -111,7 +113,7 @@ pub fn content(
     log: Log,
 ) -> Turn
     requires { ⌜ (base + length (now w) ≤ limit) × (p ≤ length (now w)) × (level ≤ 7) × (from ≤ base + p) × Slots (now kept) × Begins mail (base + p) ⌝ }
-    ensures { λ r. ⌜ TurnOf (now (w .entry)) base p (now (kept .entry)) (now (table .entry)) log (Phase.Content mail encoding level from here) r (now (table .exit)) ⌝ }
+    ensures { λ r. ⌜ ((set : Settings) → TurnOf set (now (w .entry)) base p (now (kept .entry)) (now (table .entry)) log (Phase.Content mail encoding level from here) r (now (table .exit))) ⌝ }
 {
     let n = length_at(kept, level);
     let first = level * SLOT + 1;
@@ -144,7 +146,7 @@ pub fn between(
     log: Log,
 ) -> Turn
     requires { ⌜ (base + length (now w) ≤ limit) × (p ≤ length (now w)) × (level ≤ 7) × Slots (now kept) × Begins mail (base + p) ⌝ }
-    ensures { λ r. ⌜ ((t : List ℕ) → TurnOf (now (w .entry)) base p (now (kept .entry)) t log (Phase.Between mail level) r t) ⌝ }
+    ensures { λ r. ⌜ ((set : Settings) (t : List ℕ) → TurnOf set (now (w .entry)) base p (now (kept .entry)) t log (Phase.Between mail level) r t) ⌝ }
 {
     match two_bytes(w, p) {
         Two::Stop(_) => Turn::Stop(Spot {
@@ -196,6 +198,7 @@ fn short_rest(mail: Mail, to: usize, n: usize) -> u64
 
 // Lines behind a close, up to one that ends the skipping.
 pub fn skipping(
+    settings: Settings,
     w: &[u8],
     base: usize,
     at: usize,
@@ -205,17 +208,15 @@ pub fn skipping(
     log: Log,
 ) -> Turn
     requires { ⌜ (base + length (now w) ≤ limit) × (at ≤ length (now w)) × (level ≤ 7) × Slots (now kept) × Begins mail (base + at) ⌝ }
-    ensures { λ r. ⌜ ((t : List ℕ) → TurnOf (now (w .entry)) base at (now (kept .entry)) t log (Phase.Skipping mail level) r t) ⌝ }
+    ensures { λ r. ⌜ ((t : List ℕ) → TurnOf settings (now (w .entry)) base at (now (kept .entry)) t log (Phase.Skipping mail level) r t) ⌝ }
 {
     let n = length_at(kept, 0);
     let end = 1 + n;
     let mut p = at;
     loop {
-        match line(w, p) {
-            Read::Stop(_) => {
-                let phase = Phase::Skipping(mail, level);
-                let taken = p;
-                return Turn::Stop(Spot { phase, taken, log });
+        match line(settings, w, p) {
+            Read::Stop(o) => {
+                return halted(o, Phase::Skipping(mail, level), base, p, log);
             }
             Read::To(e) => {
                 if reads::last_line(&w[p..e], &kept[1..end], mail) {
@@ -246,7 +247,7 @@ pub fn resting(
     log: Log,
 ) -> Turn
     requires { ⌜ (base + length (now w) ≤ limit) × (p ≤ length (now w)) × (level ≤ 7) × Begins mail (base + p) ⌝ }
-    ensures { λ r. ⌜ ((k t : List ℕ) → TurnOf (now (w .entry)) base p k t log (Phase.Resting mail level left) r t) ⌝ }
+    ensures { λ r. ⌜ ((set : Settings) (k t : List ℕ) → TurnOf set (now (w .entry)) base p k t log (Phase.Resting mail level left) r t) ⌝ }
 {
     if (w.len() - p) as u64 <= left {
         return Turn::Stop(Spot {
@@ -276,7 +277,7 @@ fn seek(w: &[u8], at: usize, b: &[u8], here: bool) -> Sought
         if may {
             return search(w, p, b);
         }
-        match line(w, p) {
+        match reads::line(w, p) {
             Read::Stop(_) => {
                 return Sought::Waits(p, may);
             }

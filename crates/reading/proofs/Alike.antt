@@ -4,14 +4,14 @@ use mathlib.Core.Path.{_≡_, refl, sym, ap, _∙_}
 use mathlib.Core.List.{List, [], _∷_, _++_}
 use Prim.Native.Nat.{ℕ, _+_, _-_, _≤_, _<_}
 use native.Mathlib.Omega.{arith}
-use lib.Dec.{eqb}
+use lib.Dec.{eqb, ltb}
 use lib.ListN.{length, take, drop, getD, take-append-drop, length-take, drop-of-length-le}
 use lib.Seq.{take-length}
-use borrow.Author.Tests.{eqb-true, eqb-false}
-use Rattle.reading.specs.Bytes.{firstPlace, holds}
-use Rattle.reading.specs.Reading.{dropEnd, clean, Need, aLine, bytes, past, reach, Got, got, short, parted, fetch}
+use borrow.Author.Tests.{eqb-true, eqb-false, ltb-true, ltb-false}
+use Rattle.reading.specs.Bytes.{endsWith, firstPlace, holds}
+use Rattle.reading.specs.Reading.{crlf, dropEnd, clean, Need, aLine, bytes, past, reach, Got, got, short, parted, fetch}
 use Rattle.reading.specs.declared.Place.the-variants.{At}
-use Rattle.reading.proofs.Ends.{drop-end-none, drop-end-here, drop-end-not, drop-end-within, clean-length}
+use Rattle.reading.proofs.Ends.{ends-short, ends-crlf, drop-end-none, drop-end-here, drop-end-not, drop-end-within, clean-length}
 use Rattle.reading.proofs.Pieces.{got-holds, got-reach, got-length, past-at}
 use Rattle.reading.proofs.Places.{by-test, first-moved}
 
@@ -69,15 +69,25 @@ end-alike b l m n h i same =
     (λ t. sym (drop-end-here b m n o i (eqb-true _ b (same o ∙ t))) ∙ drop-end-here b l n o h (eqb-true _ b t))
     (λ t. sym (drop-end-not b m n o i (eqb-false _ b (same o ∙ t))) ∙ drop-end-not b l n o h (eqb-false _ b t)))
 
-pub clean-alike : (l m : List ℕ) → length m ≡ length l
-    → ((k : ℕ) → k < length l → eqb (getD m k 0) 10 ≡ eqb (getD l k 0) 10)
-    → ((k : ℕ) → k < length l → eqb (getD m k 0) 13 ≡ eqb (getD l k 0) 13)
-    → length (clean m) ≡ length (clean l)
-clean-alike l m long lfs crs =
-    let n = length (dropEnd (10 ∷ []) (take (length l) l)) in
-    let w : n ≤ length l = omega (arith, drop-end-within (10 ∷ []) (take (length l) l), length-take (length l) l) in
-    let a : n ≡ length (dropEnd (10 ∷ []) (take (length m) m)) =
-    rw long (sym (end-alike 10 l m (length l) (omega arith) (omega arith) (λ o. lfs (length l - 1) (omega arith)))) in
-    sym (clean-length m n _ a refl)
-    ∙ end-alike 13 l m n w (omega arith) (λ o. crs (n - 1) (omega arith))
-    ∙ clean-length l n _ refl refl
+module _ (l m : List ℕ) (long : length m ≡ length l) (lfs : (k : ℕ) → k < length l → eqb (getD m k 0) 10 ≡ eqb (getD l k 0) 10)
+    (crs : (k : ℕ) → k < length l → eqb (getD m k 0) 13 ≡ eqb (getD l k 0) 13) where
+  pub clean-alike : length (clean m) ≡ length (clean l)
+  clean-alike =
+      let n = length (dropEnd (10 ∷ []) (take (length l) l)) in
+      let w : n ≤ length l = omega (arith, drop-end-within (10 ∷ []) (take (length l) l), length-take (length l) l) in
+      let a : n ≡ length (dropEnd (10 ∷ []) (take (length m) m)) =
+      rw long (sym (end-alike 10 l m (length l) (omega arith) (omega arith) (λ o. lfs (length l - 1) (omega arith)))) in
+      sym (clean-length m n _ a refl)
+      ∙ end-alike 13 l m n w (omega arith) (λ o. crs (n - 1) (omega arith))
+      ∙ clean-length l n _ refl refl
+
+  -- and ends in CRLF where it did
+  pub crlf-alike : endsWith crlf m ≡ endsWith crlf l
+  crlf-alike =
+      by-test (ltb (length l) 2)
+      (λ h. let n = ltb-true (length l) 2 h in sym (ends-short crlf m (omega (arith, long))) ∙ ends-short crlf l (omega arith))
+      (λ h.
+      let n = ltb-false (length l) 2 h in
+      let a = rw (take-length m, long) at (ends-crlf m (length m) (omega (arith, long)) (omega arith)) in
+      let b = rw (take-length l) at (ends-crlf l (length l) (omega arith) (omega arith)) in
+      a ∙ rw (crs (length l - 2) (omega arith), lfs (length l - 1) (omega arith)) (sym b))

@@ -23,11 +23,11 @@ use Rattle.fields.specs.declared.smtp.Address.{Address}
 use Rattle.fields.specs.declared.smtp.Address.the-variants.{Given, Missing}
 use Rattle.fields.specs.declared.smtp.Second.{Second}
 use Rattle.fields.specs.declared.smtp.Second.the-variants as is
-use Rattle.reading.proofs.Alike.{line-alike, bytes-alike, clean-alike}
+use Rattle.reading.proofs.Alike.{line-alike, bytes-alike, clean-alike, crlf-alike}
 use Rattle.reading.proofs.Ends.{clean-within}
 use Rattle.reading.proofs.Places.{by-test}
 use Rattle.reading.proofs.Words.{both-true, same-is}
-use Rattle.reading.specs.Bytes.{startsWith, same}
+use Rattle.reading.specs.Bytes.{startsWith, same, endsWith}
 use Rattle.reading.specs.Text.{text}
 use Rattle.reading.specs.Reading.{aLine, bytes, got, fetch, reach, parted, clean, crlf}
 use Rattle.rules.specs.Imap.{onCommand, onOffered, onClosing}
@@ -39,22 +39,26 @@ use Rattle.rules.specs.Phases
 use Rattle.rules.specs.Pop3.{onStatus}
 use Rattle.rules.specs.Secrecy.{inside, noLineEnd, mayTurn, may, Replaced}
 use Rattle.rules.specs.Sessions.{reacts, react}
+use Rattle.rules.specs.Strict.{isBare, strictly, reactWith}
 use Rattle.rules.specs.Smtp.{onHello, given, tried, bySecond, onSecond, onUser, onPassword, onSender, onSeeking, byRecipient, onRecipient, onReply}
 use Rattle.rules.specs.declared.Mail.{Mail}
 use Rattle.rules.specs.declared.Mail.the-variants.{Smtp, Pop3, Imap}
+use Rattle.rules.specs.declared.Settings.{Settings}
 use Rattle.rules.proofs.Changes.{apart, secret, AllLie, still, still-lies, unchanged}
 
 -- ---- a phase is blind to what may be changed of its piece: the changed piece is a piece of the same reaction
-pub record Blind (st : State) (at : ℕ) (p : List ℕ) : Type 0 where
+pub record Blind (react : State → ℕ → List ℕ → Reaction State) (st : State) (at : ℕ) (p : List ℕ) : Type 0 where
   pub lie : AllLie at (at + length p) (react st at p .events)
   pub piece : (q : List ℕ) → Replaced (react st at p .events) at p q → fetch (need st) q ≡ got q []
   pub same : (q : List ℕ) → Replaced (react st at p .events) at p q → react st at q ≡ react st at p
+  pub bare : (q : List ℕ) → Replaced (react st at p .events) at p q → isBare (need st) q ≡ isBare (need st) p
 
-still-blind : (st : State) (at : ℕ) (p : List ℕ) → fetch (need st) p ≡ got p [] → still (react st at p .events) ≡ true → Blind st at p
+still-blind : (st : State) (at : ℕ) (p : List ℕ) → fetch (need st) p ≡ got p [] → still (react st at p .events) ≡ true → Blind react st at p
 still-blind st at p g h = record {
   lie = still-lies at (at + length p) (react st at p .events) h;
   piece = λ q w. rw (unchanged (react st at p .events) at p q h w) g;
   same = λ q w. ap (react st at) (unchanged (react st at p .events) at p q h w);
+  bare = λ q w. ap (isBare (need st)) (unchanged (react st at p .events) at p q h w);
 }
 
 -- ---- phases whose events allow nothing
@@ -163,12 +167,15 @@ no-lf b h = not-true (eqb b 10) (both-true (not (eqb b 13)) (not (eqb b 10)) h .
 clean-kept : {p q : List ℕ} → Kept p q → length (clean q) ≡ length (clean p)
 clean-kept {p} {q} w = clean-alike p q (w .long) (mark-kept 10 no-lf w) (mark-kept 13 no-cr w)
 
+crlf-kept : {p q : List ℕ} → Kept p q → endsWith crlf q ≡ endsWith crlf p
+crlf-kept {p} {q} w = crlf-alike p q (w .long) (mark-kept 10 no-lf w) (mark-kept 13 no-cr w)
+
 -- one event of a line kind: the line is a line again, and the rest is up to the phase
 line-blind : (ph : Phase) (k n at : ℕ) (e : Encoding) (p : List ℕ) → wants ph ≡ aLine → eqb k sizedBody ≡ false → n ≤ length p → fetch (wants ph) p ≡ got p []
     → reacts ph at p .events ≡ ev k at n e ∷ []
     → ((q : List ℕ) → Kept p q → reacts ph at q ≡ reacts ph at p)
-    → Blind (reads ph) at p
-unfolding AllLie react need
+    → Blind react (reads ph) at p
+unfolding AllLie react need isBare
 line-blind ph k n at e p a z h g es same =
     let kept : (q : List ℕ) → Replaced (reacts ph at p .events) at p q → Kept p q =
     λ q w. record { long = w .long; bytes = λ i j. turned k at n (at + i) (getD p i 0) (getD q i 0) e z (rw es at (w .bytes i j)) } in
@@ -176,6 +183,7 @@ line-blind ph k n at e p a z h g es same =
       lie = rw es (record { from = λ t. omega arith; to = λ t. omega arith }, tt);
       piece = λ q w. rw a (line-alike p q (w .long) (rw a at g) (mark-kept 10 no-lf (kept q w)));
       same = λ q w. same q (kept q w);
+      bare = λ q w. rw a (ap not (crlf-kept (kept q w)));
     }
 
 -- a dot line has no fresh byte, so that it was one before
@@ -200,7 +208,7 @@ dot-kept {p} {q} w f =
     (λ t. absurd (apart (sym (ap (same dotLine) (was-dot w (same-is dotLine q t))) ∙ f)))
     (λ g. g)
 
-text-blind : (m : Mail) (e : Encoding) (at : ℕ) (p : List ℕ) → fetch aLine p ≡ got p [] → Blind (reads (Phases.text m e)) at p
+text-blind : (m : Mail) (e : Encoding) (at : ℕ) (p : List ℕ) → fetch aLine p ≡ got p [] → Blind react (reads (Phases.text m e)) at p
 unfolding still secret react reacts need wants onText
 text-blind m e at p g =
     by-test (same dotLine p)
@@ -213,15 +221,16 @@ unfolding AllLie whole held secret
 literal-lies e at zero = (record { from = λ t. omega arith; to = λ t. omega arith }, tt)
 literal-lies e at (suc n) = (record { from = λ t. omega arith; to = λ t. omega arith }, (record { from = λ t. omega arith; to = λ t. omega arith }, tt))
 
-literal-blind : (e : Encoding) (n at : ℕ) (p : List ℕ) → fetch (bytes n) p ≡ got p [] → Blind (reads (Phases.literal e n)) at p
-unfolding react reacts need wants onLiteral
+literal-blind : (e : Encoding) (n at : ℕ) (p : List ℕ) → fetch (bytes n) p ≡ got p [] → Blind react (reads (Phases.literal e n)) at p
+unfolding react reacts need wants onLiteral isBare
 literal-blind e n at p g = record {
   lie = literal-lies e at (length p);
   piece = λ q w. bytes-alike p q (w .long) n g;
   same = λ q w. ap (λ (l : ℕ). then (whole sizedBody e at l) Phases.closing) (w .long);
+  bare = λ q w. refl;
 }
 
-blinds : (ph : Phase) (at : ℕ) (l : List ℕ) → fetch (wants ph) l ≡ got l [] → Blind (reads ph) at l
+blinds : (ph : Phase) (at : ℕ) (l : List ℕ) → fetch (wants ph) l ≡ got l [] → Blind react (reads ph) at l
 unfolding still secret react reacts need wants onHello onSecond onUser onPassword onSender onSeeking onRecipient onReply onStatus onOffered onClosing onPreamble onOpened
     onContent onBetween onSkipping onResting
 blinds Phases.hello at l g = still-blind (reads Phases.hello) at l g (either (startsWithHelo l) (then [] Phases.second) (stop [] NoHello 0) refl refl)
@@ -257,7 +266,36 @@ blinds (Phases.between m b os) at l g = still-blind (reads (Phases.between m b o
 blinds (Phases.skipping m b os) at l g = still-blind (reads (Phases.skipping m b os)) at l g (refl)
 blinds (Phases.resting m b os n) at l g = still-blind (reads (Phases.resting m b os n)) at l g (refl)
 
-pub blind : (st : State) (at : ℕ) (p : List ℕ) → fetch (need st) p ≡ got p [] → Blind st at p
+pub blind : (st : State) (at : ℕ) (p : List ℕ) → fetch (need st) p ≡ got p [] → Blind react st at p
 unfolding need fetch reach parted
 blind (reads ph) at p g = blinds ph at p g
 blind (ends r q) at p g = absurd (let z : _≡_ {A = ℕ} 0 1 = cc in omega arith)
+
+-- ---- with settings: a line ends in CRLF where it did, so that it is refused where it was; one that is refused lists nothing
+module _ (set : Settings) (st : State) (at : ℕ) (p : List ℕ) (g : fetch (need st) p ≡ got p []) where
+  refused-blind : (isBare (need st) p && set .strict) ≡ true → Blind (reactWith set) st at p
+  unfolding strictly still
+  refused-blind h =
+      let e : reactWith set st at p .events ≡ [] = rw h in
+      let same : (q : List ℕ) → Replaced (reactWith set st at p .events) at p q → q ≡ p = λ q w. unchanged (reactWith set st at p .events) at p q (rw e) w in
+      record {
+        lie = still-lies at (at + length p) (reactWith set st at p .events) (rw e);
+        piece = λ q w. rw (same q w) g;
+        same = λ q w. ap (reactWith set st at) (same q w);
+        bare = λ q w. ap (isBare (need st)) (same q w);
+      }
+
+  passed-blind : (isBare (need st) p && set .strict) ≡ false → Blind (reactWith set) st at p
+  unfolding strictly
+  passed-blind h =
+      let e : reactWith set st at p ≡ react st at p = rw h in
+      let b = blind st at p g in
+      record {
+        lie = rw e (b .lie);
+        piece = λ q w. b .piece q (rw e at w);
+        same = λ q w. let v : Replaced (react st at p .events) at p q = rw e at w in rw (b .bare q v, h) (b .same q v);
+        bare = λ q w. b .bare q (rw e at w);
+      }
+
+  pub blind-with : Blind (reactWith set) st at p
+  blind-with = by-test (isBare (need st) p && set .strict) refused-blind passed-blind

@@ -1,4 +1,5 @@
 pub mod Machines
+pub mod Strict
 pub mod Answers
 pub mod Counting
 pub mod Kept

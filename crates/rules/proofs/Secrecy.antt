@@ -88,7 +88,7 @@ module _ (st : State) (at : ℕ) (s u : List ℕ) (k : ℕ) where
     changed : Replaced (react st at p .events ++ rest-events) at (p ++ r) u
     changed = rw (session-got st at s p r f, got-splits (need st) s p r f) at w
 
-    blinded : Blind st at p
+    blinded : Blind react st at p
     blinded = blind st at p (got-itself (need st) s p r f)
 
     abbrev behind : AllLie (at + length p) (at + length p + length r) rest-events

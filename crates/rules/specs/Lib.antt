@@ -5,4 +5,5 @@ pub mod Smtp
 pub mod Pop3
 pub mod Imap
 pub mod Sessions
+pub mod Strict
 pub mod Secrecy

@@ -14,3 +14,8 @@ pub enum Mail {
     Pop3,
     Imap(u64, usize),
 }
+
+// What is chosen where a session by windows begins, beside its entry: with `strict`, a line that does not end in CRLF ends the session.
+pub struct Settings {
+    pub strict: bool,
+}

@@ -23,6 +23,7 @@ use Rattle.rules.specs.declared.Entry.{Entry}
 use Rattle.rules.specs.declared.Entry.the-variants.{SmtpClient, SmtpServer, Pop3Server, ImapClient}
 use Rattle.rules.specs.declared.Mail.{Mail}
 use Rattle.rules.specs.declared.Mail.the-variants.{Smtp, Pop3, Imap}
+use Rattle.rules.specs.declared.Settings.{Settings}
 use Rattle.windows.proofs.Taken as takes
 use Rattle.windows.specs.Stands.{enters}
 use Rattle.windows.specs.Windows.{over, refused, window, taken}
@@ -152,12 +153,12 @@ zeros (suc n) (suc j) = zeros n j
 zeros-short : (k : List ℕ) (n : ℕ) → ((j : ℕ) → getD k j 0 ≡ 0) → shortTo k n ≡ true
 zeros-short k n h = by-short k n (λ j g. omega (arith, h (j * 72)))
 
-pub begun-so : (e : Entry) {s : Session} → s .phase ≡ startsAt e → s .at ≡ 0 → s .log ≡ noEvents → ((j : ℕ) → getD (s .boundaries) j 0 ≡ 0) → Begun e s
+pub begun-so : (set : Settings) (e : Entry) {s : Session} → s .settings ≡ set → s .phase ≡ startsAt e → s .at ≡ 0 → s .log ≡ noEvents → ((j : ℕ) → getD (s .boundaries) j 0 ≡ 0) → Begun set e s
 unfolding stateOf enters fitsBy
-begun-so SmtpClient {s} p a l z = record { is = rw (p, a, l); sound = rw (p, a, zeros-short (s .boundaries) 9 z) }
-begun-so SmtpServer {s} p a l z = record { is = rw (p, a, l); sound = rw (p, a, zeros-short (s .boundaries) 9 z) }
-begun-so Pop3Server {s} p a l z = record { is = rw (p, a, l); sound = rw (p, a, zeros-short (s .boundaries) 9 z) }
-begun-so ImapClient {s} p a l z = record { is = rw (p, a, l); sound = rw (p, a, zeros-short (s .boundaries) 9 z) }
+begun-so set SmtpClient {s} c p a l z = record { is = rw (p, a, l); settings = c; sound = rw (p, a, zeros-short (s .boundaries) 9 z) }
+begun-so set SmtpServer {s} c p a l z = record { is = rw (p, a, l); settings = c; sound = rw (p, a, zeros-short (s .boundaries) 9 z) }
+begun-so set Pop3Server {s} c p a l z = record { is = rw (p, a, l); settings = c; sound = rw (p, a, zeros-short (s .boundaries) 9 z) }
+begun-so set ImapClient {s} c p a l z = record { is = rw (p, a, l); settings = c; sound = rw (p, a, zeros-short (s .boundaries) 9 z) }
 
 -- ---- a window shown to a session
 module _ (s : Session) (ok : isSound s ≡ true) where
@@ -177,37 +178,39 @@ module _ (s : Session) (ok : isSound s ≡ true) where
 
   module _ {w t : List ℕ} {r : Shown} where
     -- it is over: the record stays
-    pub shows-over : over (stateOf (s .boundaries) (s .phase)) ≡ true → Answers (record { phase = s .phase; taken = 0; log = s .log }) (s .at) (s .boundaries) r → Read s w t r t
+    pub shows-over : over (stateOf (s .boundaries) (s .phase)) ≡ true → Answers (s .settings) (record { phase = s .phase; taken = 0; log = s .log }) (s .at) (s .boundaries) r → Read s w t r t
     shows-over h a =
         let z : s .at + 0 ≡ s .at = omega arith in
         let e : r .session ≡ s = rw z at (a .session) in
-        let g = takes.repeats (recordOf s) t w h in
-        record { is = rw e (sym (g .0)); answer = a .answer t; taken = a .taken ∙ sym (g .1); sound = rw e ok }
+        let g = takes.repeats (s .settings) (recordOf s) t w h in
+        record { is = rw e (sym (g .0)); settings = ap (λ (x : Session). x .settings) e; answer = a .answer t; taken = a .taken ∙ sym (g .1); sound = rw e ok }
 
     module _ (h : over (stateOf (s .boundaries) (s .phase)) ≡ false) where
       -- past the limit: 2
-      pub shows-long : limit < s .at + length w → Answers (record { phase = is.Over TooLong 0; taken = 0; log = s .log }) (s .at) (s .boundaries) r → Read s w t r t
+      pub shows-long : limit < s .at + length w → Answers (s .settings) (record { phase = is.Over TooLong 0; taken = 0; log = s .log }) (s .at) (s .boundaries) r → Read s w t r t
       unfolding window refused stateOf fitsBy
       shows-long g a =
           let z : s .at + 0 ≡ s .at = omega arith in
-          let e : r .session ≡ record { phase = is.Over TooLong 0; at = s .at; log = s .log; boundaries = s .boundaries } = rw z at (a .session) in
+          let e : r .session ≡ record { settings = s .settings; phase = is.Over TooLong 0; at = s .at; log = s .log; boundaries = s .boundaries } = rw z at (a .session) in
           record {
             is = rw (e, h, lt-ltb limit (s .at + length w) g);
+            settings = ap (λ (x : Session). x .settings) e;
             answer = a .answer t;
-            taken = a .taken ∙ sym (takes.past-limit (recordOf s) t w h g .1);
+            taken = a .taken ∙ sym (takes.past-limit (s .settings) (recordOf s) t w h g .1);
             sound = rw (e, le-leb (s .at) limit (parts .0), parts .1);
           }
 
       -- it is read
       pub shows-read : {k u : List ℕ} {spot : Spot} → s .at + length w ≤ limit
-          → Went w (s .at) (s .boundaries) t (record { phase = s .phase; taken = 0; log = s .log }) k spot u → Answers spot (s .at) k r → Read s w t r u
+          → Went (s .settings) w (s .at) (s .boundaries) t (record { phase = s .phase; taken = 0; log = s .log }) k spot u → Answers (s .settings) spot (s .at) k r → Read s w t r u
       unfolding window taken
       shows-read {k} {u} {spot} g d a =
           let z : s .at + 0 ≡ s .at = omega arith in
-          let landed : spotOf (s .at) k u spot ≡ window (recordOf s) t w = rw (h, le-ltb limit (s .at + length w) g) (rw z at (d .is .is)) in
-          let took : taken (recordOf s) (window (recordOf s) t w) ≡ spot .taken = took-so landed in
+          let landed : spotOf (s .at) k u spot ≡ window (s .settings) (recordOf s) t w = rw (h, le-ltb limit (s .at + length w) g) (rw z at (d .is .is)) in
+          let took : taken (recordOf s) (window (s .settings) (recordOf s) t w) ≡ spot .taken = took-so landed in
           record {
             is = rw (a .session) landed;
+            settings = ap (λ (x : Session). x .settings) (a .session);
             answer = a .answer u;
             taken = a .taken ∙ sym took;
             sound = rw (
@@ -217,7 +220,7 @@ module _ (s : Session) (ok : isSound s ≡ true) where
             ) (by-fits (spot .phase) (s .at + spot .taken) (d .is .fits));
           }
         where
-          took-so : spotOf (s .at) k u spot ≡ window (recordOf s) t w → taken (recordOf s) (window (recordOf s) t w) ≡ spot .taken
+          took-so : spotOf (s .at) k u spot ≡ window (s .settings) (recordOf s) t w → taken (recordOf s) (window (s .settings) (recordOf s) t w) ≡ spot .taken
           took-so e = rw (← e) (let n : s .at + spot .taken - s .at ≡ spot .taken = omega arith in n)
 
 -- ---- no window takes more than it shows
@@ -225,5 +228,5 @@ pub shows-within : (s : Session) (w t : List ℕ) (r : Shown) (u : List ℕ) →
 shows-within s w t r u h = by-sound (isSound s) h
   where
     by-sound : (b : Bool) → ShowsIf b s w t r u → r .taken ≤ length w
-    by-sound true d = omega (arith, d .taken, takes.within (recordOf s) t w)
+    by-sound true d = omega (arith, d .taken, takes.within (s .settings) (recordOf s) t w)
     by-sound false d = omega (arith, ap (λ (x : Shown). x .taken) (d .is))

@@ -19,6 +19,7 @@ use Rattle.rules.specs.declared.Entry.{Entry}
 use Rattle.rules.specs.declared.Entry.the-variants.{SmtpClient, SmtpServer, Pop3Server, ImapClient}
 use Rattle.rules.specs.declared.Mail.{Mail}
 use Rattle.rules.specs.declared.Mail.the-variants.{Smtp, Pop3, Imap}
+use Rattle.rules.specs.declared.Settings.{Settings}
 use Rattle.windows.specs.Windows as windows
 use Rattle.windows.specs.Windows.{Record, begins, said, window, taken}
 use Rattle.tap.specs.declared.Seen.{Seen}
@@ -77,17 +78,19 @@ startsAt SmtpServer = is.Reply
 startsAt Pop3Server = is.Status
 startsAt ImapClient = is.Command
 
-pub record Begun (e : Entry) (s : Session) : Type 0 where
+pub record Begun (set : Settings) (e : Entry) (s : Session) : Type 0 where
   pub is : recordOf s ≡ begins (startOf e)
+  pub settings : s .settings ≡ set
   pub sound : isSound s ≡ true
 
 -- ---- a window is shown
 
--- to a session: record, table, answer and what is taken are the definition's, and it stays one
+-- to a session: record, table, answer and what is taken are the definition's, its settings stay, and it stays one
 pub record Read (s : Session) (w t : List ℕ) (r : Shown) (u : List ℕ) : Type 0 where
-  pub is : record { next = recordOf (r .session); table = u } ≡ window (recordOf s) t w
+  pub is : record { next = recordOf (r .session); table = u } ≡ window (s .settings) (recordOf s) t w
+  pub settings : r .session .settings ≡ s .settings
   pub answer : finalOf u (r .answer) ≡ said (recordOf (r .session)) u
-  pub taken : r .taken ≡ taken (recordOf s) (window (recordOf s) t w)
+  pub taken : r .taken ≡ taken (recordOf s) (window (s .settings) (recordOf s) t w)
   pub sound : isSound (r .session) ≡ true
 
 -- to any other record: nothing is taken and nothing written
@@ -103,25 +106,25 @@ abbrev pub Shows : Session → List ℕ → List ℕ → Shown → List ℕ → 
 Shows s w t r u = ShowsIf (isSound s) s w t r u
 
 -- the same by parts, where the copies are lent
-abbrev pub sessionWith : Phase → ℕ → Log → List ℕ → Session
-sessionWith ph at log k = record { phase = ph; at = at; log = log; boundaries = k }
+abbrev pub sessionWith : Settings → Phase → ℕ → Log → List ℕ → Session
+sessionWith set ph at log k = record { settings = set; phase = ph; at = at; log = log; boundaries = k }
 
-abbrev pub shownWith : Seen → List ℕ → Shown
-shownWith r k = record { session = sessionWith (r .phase) (r .at) (r .log) k; answer = r .answer; taken = r .taken }
+abbrev pub shownWith : Settings → Seen → List ℕ → Shown
+shownWith set r k = record { session = sessionWith set (r .phase) (r .at) (r .log) k; answer = r .answer; taken = r .taken }
 
 -- ---- below `show`
 
 abbrev pub waitingAt : ℕ → Log → Answer
 waitingAt p log = record { result = Incomplete; place = p; count = log .count }
 
-pub record Left (spot : Spot) (at : ℕ) (k : List ℕ) (r : Shown) : Type 0 where
+pub record Left (set : Settings) (spot : Spot) (at : ℕ) (k : List ℕ) (r : Shown) : Type 0 where
   pub is : r ≡ record {
-    session = sessionWith (spot .phase) at (spot .log) k;
+    session = sessionWith set (spot .phase) at (spot .log) k;
     answer = record { result = NoSession; place = 0; count = 0 };
     taken = 0;
   }
 
-pub record Answers (spot : Spot) (base : ℕ) (k : List ℕ) (r : Shown) : Type 0 where
-  pub session : r .session ≡ sessionWith (spot .phase) (base + spot .taken) (spot .log) k
+pub record Answers (set : Settings) (spot : Spot) (base : ℕ) (k : List ℕ) (r : Shown) : Type 0 where
+  pub session : r .session ≡ sessionWith set (spot .phase) (base + spot .taken) (spot .log) k
   pub answer : (u : List ℕ) → finalOf u (r .answer) ≡ said (recordOf (r .session)) u
   pub taken : r .taken ≡ spot .taken

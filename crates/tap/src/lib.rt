@@ -16,6 +16,7 @@ use phases::Phase;
 use phases::Spot;
 use rules::Entry;
 use rules::Mail;
+use rules::Settings;
 
 // The most bytes of a session.
 const LIMIT: usize = 16_777_216;
@@ -26,8 +27,9 @@ const SLOT: usize = 72;
 
 const LONGEST: u8 = 71;
 
-// What is known between windows: the phase, how many bytes are taken, what the writer knows, and copies of the open boundaries.
+// What is known between windows: what was chosen at the start, the phase, how many bytes are taken, what the writer knows, and copies of the open boundaries.
 pub struct Session {
+    pub settings: Settings,
     pub phase: Phase,
     pub at: usize,
     pub log: Log,
@@ -41,7 +43,7 @@ pub struct Shown {
     pub taken: usize,
 }
 
-// The same but for the copies.
+// The same but for the settings, which stay, and the copies.
 pub struct Seen {
     pub phase: Phase,
     pub at: usize,
@@ -50,10 +52,11 @@ pub struct Seen {
     pub taken: usize,
 }
 
-pub fn begin(entry: Entry) -> Session
-    ensures { λ r. ⌜ Begun entry r ⌝ }
+pub fn begin(entry: Entry, settings: Settings) -> Session
+    ensures { λ r. ⌜ Begun settings entry r ⌝ }
 {
     Session {
+        settings,
         phase: first_phase(entry),
         at: 0,
         log: Log { count: 0 },
@@ -76,15 +79,17 @@ fn first_phase(entry: Entry) -> Phase
 pub fn show(session: Session, w: &[u8], table: &mut [u32]) -> Shown
     ensures { λ r. ⌜ Shows session (now (w .entry)) (now (table .entry)) r (now (table .exit)) ⌝ }
 {
+    let settings = session.settings;
     let phase = session.phase;
     let log = session.log;
     let mut boundaries = session.boundaries;
-    let seen = show_lent(phase, session.at, log, &mut boundaries, w, table);
+    let seen = show_lent(settings, phase, session.at, log, &mut boundaries, w, table);
     let phase = seen.phase;
     let log = seen.log;
     let answer = seen.answer;
     Shown {
         session: Session {
+            settings,
             phase,
             at: seen.at,
             log,
@@ -97,6 +102,7 @@ pub fn show(session: Session, w: &[u8], table: &mut [u32]) -> Shown
 
 // The same where the copies are lent, so that none of them is copied for a window.
 pub fn show_lent(
+    settings: Settings,
     phase: Phase,
     at: usize,
     log: Log,
@@ -104,7 +110,7 @@ pub fn show_lent(
     w: &[u8],
     table: &mut [u32],
 ) -> Seen
-    ensures { λ r. ⌜ Shows (sessionWith phase at log (now (kept .entry))) (now (w .entry)) (now (table .entry)) (shownWith r (now (kept .exit))) (now (table .exit)) ⌝ }
+    ensures { λ r. ⌜ Shows (sessionWith settings phase at log (now (kept .entry))) (now (w .entry)) (now (table .entry)) (shownWith settings r (now (kept .exit))) (now (table .exit)) ⌝ }
 {
     let here = Spot {
         phase,
@@ -128,13 +134,13 @@ pub fn show_lent(
             at,
         );
     }
-    let spot = phases::advance(here, w, at, kept, table);
+    let spot = phases::advance(settings, here, w, at, kept, table);
     answered(spot, at)
 }
 
 // Of a record that is none, nothing is done.
 fn no_session(spot: Spot, at: usize) -> Seen
-    ensures { λ r. ⌜ ((k : List ℕ) → Left spot at k (shownWith r k)) ⌝ }
+    ensures { λ r. ⌜ ((set : Settings) (k : List ℕ) → Left set spot at k (shownWith set r k)) ⌝ }
 {
     let phase = spot.phase;
     let log = spot.log;
@@ -155,7 +161,7 @@ fn no_session(spot: Spot, at: usize) -> Seen
 // What a spot makes of a record.
 fn answered(spot: Spot, base: usize) -> Seen
     requires { ⌜ base + spot .taken ≤ limit ⌝ }
-    ensures { λ r. ⌜ ((k : List ℕ) → Answers spot base k (shownWith r k)) ⌝ }
+    ensures { λ r. ⌜ ((set : Settings) (k : List ℕ) → Answers set spot base k (shownWith set r k)) ⌝ }
 {
     let phase = spot.phase;
     let log = spot.log;

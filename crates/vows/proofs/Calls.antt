@@ -18,12 +18,12 @@ use Rattle.vows.proofs.Takes.{read, takes-within, moves}
 -- ---- a call does what the definition says of its window
 called : (x : Tapped) (w : List ℕ) (c : Call) → Read (x .session) (windowOf x w) (x .table) (c .gives) (c .table)
     → (tapOf (after x w c) ≡ shows (tapOf x) w)
-    × (answeredOf c ≡ answered (recordOf (x .session)) (window (recordOf (x .session)) (x .table) (windowOf x w)))
+    × (answeredOf c ≡ answered (recordOf (x .session)) (window (x .session .settings) (recordOf (x .session)) (x .table) (windowOf x w)))
 unfolding shows
 called x w c d =
     let v = windowOf x w in
-    let n = taken (recordOf (x .session)) (window (recordOf (x .session)) (x .table) v) in (
-      rw (d .taken) (ap {B = Tap} (λ (g : windows.Shown). record { session = g .next; table = g .table; untaken = drop n v }) (d .is)),
+    let n = taken (recordOf (x .session)) (window (x .session .settings) (recordOf (x .session)) (x .table) v) in (
+      rw (d .taken, d .settings) (ap {B = Tap} (λ (g : windows.Shown). record { settings = x .session .settings; session = g .next; table = g .table; untaken = drop n v }) (d .is)),
       rw (d .answer, d .taken) (ap {B = Answered} (λ (g : windows.Shown). record { answer = said (g .next) (g .table); took = n }) (d .is)),
     )
 
@@ -97,7 +97,7 @@ unfolding showsAll answers shows
 last-told [] p lone h = cc
 last-told [] p (later l) h = cc
 last-told (w ∷ []) p {c = c} lone h =
-    let e : answeredOf c ≡ answered (p .session) (window (p .session) (p .table) (p .untaken ++ w)) = cc in
+    let e : answeredOf c ≡ answered (p .session) (window (p .settings) (p .session) (p .table) (p .untaken ++ w)) = cc in
     ap (λ (a : Answered). a .answer) e
 last-told (w ∷ (v ∷ ws)) p lone h = cc
 last-told (w ∷ ws) p (later l) h = last-told ws (shows p w) l cc

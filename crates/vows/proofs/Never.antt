@@ -24,6 +24,7 @@ use Rattle.fields.specs.declared.smtp.Second.the-variants as is
 use Rattle.reading.specs.Bytes.{startsWith, same}
 use Rattle.reading.specs.Reading.{clean, crlf, Got, got, short, fetch}
 use Rattle.reading.specs.Text.{text}
+use Rattle.rules.proofs.Strict.{CutShort, alike as same-run, cut-at, cut-short}
 use Rattle.rules.specs.Imap.{onCommand, onOffered, onClosing}
 use Rattle.rules.specs.Machine.{Reaction, Ran, turn, go, run}
 use Rattle.rules.specs.Mail.{dotLine, hyphens, levels, afterMail, rest, literalBody, plainMail, boundaryFree, begun, onHead, onText, onLiteral}
@@ -36,6 +37,7 @@ use Rattle.rules.specs.Smtp.{onHello, bySecond, onSecond, onUser, onPassword, o
 use Rattle.rules.specs.declared.Entry.{Entry}
 use Rattle.rules.specs.declared.Mail.{Mail}
 use Rattle.rules.specs.declared.Mail.the-variants.{Smtp, Pop3, Imap}
+use Rattle.rules.specs.declared.Settings.{Settings}
 use Rattle.windows.proofs.Beyond.{Reached, within, beyond, reached}
 use Rattle.windows.proofs.Bridge.{Told, Agrees, alike, longer, bridge}
 use Rattle.windows.proofs.Cut.{settled, stands-says, entries}
@@ -183,9 +185,15 @@ unfolding isTwenty
 agrees-own x y (alike e) h = rw e h
 agrees-own x y (longer e more g) h = rw e
 
-pieces-own : (e : Entry) (s : List ℕ) → isTwenty (standResult (pieces (enters (startOf e) 0) 0 s .state)) ≡ false
+cut-own : (x y : Ran State) → CutShort x y → isTwenty (resultOf (y .state)) ≡ false → isTwenty (resultOf (x .state)) ≡ false
+unfolding isTwenty resultOf
+cut-own x y (same-run e) h = rw e h
+cut-own x y (cut-at p e more g) h = rw e
+
+pieces-own : (set : Settings) (e : Entry) (s : List ℕ) → isTwenty (standResult (pieces set (enters (startOf e) 0) 0 s .state)) ≡ false
 unfolding enter
-pieces-own e s = agrees-own _ _ (bridge (reads (startOf e)) 0 s) (session-own (startOf e) 0 s)
+pieces-own set e s =
+    agrees-own _ _ (bridge set (reads (startOf e)) 0 s) (cut-own _ _ (cut-short set (reads (startOf e)) 0 s) (session-own (startOf e) 0 s))
 
 finish-own : (x : Poured) (r : Outcome) (p : ℕ) → isTwenty r ≡ false → isTwenty (finish x r p .result) ≡ false
 unfolding finish isTwenty
@@ -196,18 +204,18 @@ settled-own : (t : List ℕ) (o : Ran Stand) → isTwenty (standResult (o .state
 unfolding settled
 settled-own t o h = finish-own (pour (o .events) t noEvents) (standResult (o .state)) (standPlace (o .state) (o .at)) h
 
-module _ (e : Entry) (t : List ℕ) (ws : List (List ℕ)) where
+module _ (set : Settings) (e : Entry) (t : List ℕ) (ws : List (List ℕ)) where
   abbrev x : Tap
-  x = showsAll (tapped (startOf e) t) ws
+  x = showsAll (tapped set (startOf e) t) ws
 
-  by-reached : Reached t (enters (startOf e) 0) (entries e .firm) (flatten ws) x → isTwenty (lastly x .result) ≡ false
+  by-reached : Reached set t (enters (startOf e) 0) (entries e .firm) (flatten ws) x → isTwenty (lastly x .result) ≡ false
   unfolding isTwenty
   by-reached (within i) =
-      let o = pieces (enters (startOf e) 0) 0 (flatten ws) in
-      rw (stands-says t o x i) (settled-own t o (pieces-own e (flatten ws)))
+      let o = pieces set (enters (startOf e) 0) 0 (flatten ws) in
+      rw (stands-says set t o x i) (settled-own t o (pieces-own set e (flatten ws)))
   by-reached (beyond seen more m u log p h q) = rw q refl
 
   -- whatever windows were shown, the answer is not 20
   pub never-twenty : resultNumber (lastly x .result) ≡ 20 → ⊥
   unfolding isTwenty
-  never-twenty = eqb-false (resultNumber (lastly x .result)) 20 (by-reached (reached e t ws))
+  never-twenty = eqb-false (resultNumber (lastly x .result)) 20 (by-reached (reached set e t ws))

@@ -7,6 +7,7 @@ use lib.ListN.{getD, drop}
 use Rattle.mailindex.proofs.Held.{shown-to}
 use Rattle.mailindex.specs.Exports.{Holds}
 use Rattle.rules.specs.declared.Entry.{Entry}
+use Rattle.rules.specs.declared.Settings.{Settings}
 use Rattle.tap.specs.declared.Session.{Session}
 use Rattle.vows.specs.Through.{Held, Exit, CallsFrom, none, call, RunsThrough, Seen, seen, seenOf, SameRun}
 use Rattle.vows.specs.Vows as vows
@@ -39,7 +40,7 @@ same-calls s {x} h (call {ws = ws} {gs = gs} w g shows more) =
           ∙ ap (λ (l : List Seen). seen g ∷ l) (rest .same);
     }
 
-pub through-c : {e : Entry} {t : List ℕ} {ws : List (List ℕ)} {gs : List Exit} → RunsThrough e t ws gs → SameRun e t ws gs
+pub through-c : {set : Settings} {e : Entry} {t : List ℕ} {ws : List (List ℕ)} {gs : List Exit} → RunsThrough set e t ws gs → SameRun set e t ws gs
 through-c r =
     let b = r .begun in
     let same = same-calls (b .session) (b .holds) (r .calls) in

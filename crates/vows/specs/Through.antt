@@ -6,6 +6,7 @@ use Prim.Native.Nat.{ℕ}
 use lib.ListN.{getD, drop}
 use Rattle.mailindex.specs.Exports.{BeginsWith, Showing, shownOf}
 use Rattle.rules.specs.declared.Entry.{Entry}
+use Rattle.rules.specs.declared.Settings.{Settings}
 use Rattle.vows.specs.Vows.{Call, Runs}
 
 -- between windows the caller has the session's numbers and copies, the table, and the bytes shown that were not taken
@@ -32,12 +33,12 @@ pub data CallsFrom : Held → List (List ℕ) → List Exit → Type 0 where
       → Showing (x .numbers) (x .copies) (x .untaken ++ w) (x .table) (g .numbers) (g .copies) (g .table) (g .answer)
       → CallsFrom (behind x w g) ws gs → CallsFrom x (w ∷ ws) (g ∷ gs)
 
--- a session of entry e is begun, the table being t; the windows bring the bytes ws
-pub record RunsThrough (e : Entry) (t : List ℕ) (ws : List (List ℕ)) (gs : List Exit) : Type 0 where
+-- a session of entry e with these settings is begun, the table being t; the windows bring the bytes ws
+pub record RunsThrough (set : Settings) (e : Entry) (t : List ℕ) (ws : List (List ℕ)) (gs : List Exit) : Type 0 where
   pub numbers : List ℕ
   pub copies : List ℕ
   pub result : ℕ
-  pub begun : BeginsWith e numbers copies result
+  pub begun : BeginsWith set e numbers copies result
   pub calls : CallsFrom (record { numbers = numbers; copies = copies; table = t; untaken = [] }) ws gs
 
 -- what a caller sees of an exit: the answer's four numbers, and the table
@@ -52,7 +53,7 @@ abbrev pub seenOf : Call → Seen
 seenOf c = record { answer = shownOf (c .gives .answer) (c .gives .taken); table = c .table }
 
 -- exits of `begin` and `show` of which a caller sees the same
-pub record SameRun (e : Entry) (t : List ℕ) (ws : List (List ℕ)) (gs : List Exit) : Type 0 where
+pub record SameRun (set : Settings) (e : Entry) (t : List ℕ) (ws : List (List ℕ)) (gs : List Exit) : Type 0 where
   pub calls : List Call
-  pub run : Runs e t ws calls
+  pub run : Runs set e t ws calls
   pub same : map seenOf calls ≡ map seen gs

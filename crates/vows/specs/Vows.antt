@@ -8,6 +8,7 @@ use Rattle.events.specs.declared.Event.{Event}
 use Rattle.promises.specs.Promises.{Exit}
 use Rattle.rules.specs.Sessions.{startOf}
 use Rattle.rules.specs.declared.Entry.{Entry}
+use Rattle.rules.specs.declared.Settings.{Settings}
 use Rattle.tap.specs.Tapping.{recordOf, Begun, Shows}
 use Rattle.tap.specs.declared.Session.{Session}
 use Rattle.tap.specs.declared.Shown.{Shown}
@@ -36,7 +37,7 @@ pub record Tapped : Type 0 where
 
 -- the definition's view of it
 abbrev pub tapOf : Tapped → Tap
-tapOf x = record { session = recordOf (x .session); table = x .table; untaken = x .untaken }
+tapOf x = record { settings = x .session .settings; session = recordOf (x .session); table = x .table; untaken = x .untaken }
 
 -- the window that is shown: untaken bytes at its front, the new ones w behind them
 abbrev pub windowOf : Tapped → List ℕ → List ℕ
@@ -52,16 +53,16 @@ pub data Calls : Tapped → List (List ℕ) → List Call → Tapped → Type 0 
   call : {x y : Tapped} {ws : List (List ℕ)} {cs : List Call} (w : List ℕ) (c : Call)
       → Shows (x .session) (windowOf x w) (x .table) (c .gives) (c .table) → Calls (after x w c) ws cs y → Calls x (w ∷ ws) (c ∷ cs) y
 
--- a run of the code: a session of entry e is begun, the table being t; the windows bring the bytes ws; cs are the exits, and x is what there is at the end
-pub record Run (e : Entry) (t : List ℕ) (ws : List (List ℕ)) (cs : List Call) (x : Tapped) : Type 0 where
+-- a run of the code: a session of entry e with these settings is begun, the table being t; the windows bring the bytes ws; cs are the exits, and x is what there is at the end
+pub record Run (set : Settings) (e : Entry) (t : List ℕ) (ws : List (List ℕ)) (cs : List Call) (x : Tapped) : Type 0 where
   pub session : Session
-  pub begun : Begun e session
+  pub begun : Begun set e session
   pub calls : Calls (record { session = session; table = t; untaken = [] }) ws cs x
 
 -- a run, whatever there is at its end
-pub record Runs (e : Entry) (t : List ℕ) (ws : List (List ℕ)) (cs : List Call) : Type 0 where
+pub record Runs (set : Settings) (e : Entry) (t : List ℕ) (ws : List (List ℕ)) (cs : List Call) : Type 0 where
   pub end : Tapped
-  pub run : Run e t ws cs end
+  pub run : Run set e t ws cs end
 
 -- c is the last of the exits
 pub data Last (c : Call) : List Call → Type 0 where
@@ -69,5 +70,5 @@ pub data Last (c : Call) : List Call → Type 0 where
   later : {d : Call} {cs : List Call} → Last c cs → Last c (d ∷ cs)
 
 -- all events that windows list of a session, whatever table there is
-unfoldable pub windowEvents : Entry → List ℕ → List Event
-windowEvents e s = pieces (enters (startOf e) 0) 0 s .events
+unfoldable pub windowEvents : Settings → Entry → List ℕ → List Event
+windowEvents set e s = pieces set (enters (startOf e) 0) 0 s .events

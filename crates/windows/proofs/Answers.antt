@@ -32,6 +32,8 @@ use Rattle.events.specs.declared.Encoding.the-variants.{Unsaid}
 use Rattle.rules.specs.Phases as phase
 use Rattle.rules.specs.Phases.{reads}
 use Rattle.rules.specs.Sessions.{reacts, react, resultOf, placeOf, startOf}
+use Rattle.rules.specs.Strict.{lax, isBare, strictly}
+use Rattle.rules.specs.declared.Settings.{Settings}
 use Rattle.rules.specs.declared.Mail.the-variants.{Smtp}
 use Rattle.windows.specs.Pieces.{word, orElse, standing, pieceOf, isAt, isMark}
 use Rattle.windows.specs.Stands.{fresh, copied, clipped, opens, enters, enter, takes, does, standResult, standPlace}
@@ -58,12 +60,18 @@ record Case : Type 0 where
   wanted : List ℕ
 
 -- a table of so many slots and a number over, each number 99; the windows; the rows wanted, and the events
-abbrev on : ℕ → Entry → List (List ℕ) → List Row → List Row → Case
-on n e ws rs es =
+abbrev with-settings : Settings → ℕ → Entry → List (List ℕ) → List Row → List Row → Case
+with-settings set n e ws rs es =
     record {
-      answers = trace (tapped (startOf e) (replicate (4 * n + 1) 99)) ws;
+      answers = trace (tapped set (startOf e) (replicate (4 * n + 1) 99)) ws;
       wanted = flat rs ++ (flat es ++ replicate (4 * n + 1 - 4 * length es) 99);
     }
+
+abbrev on : ℕ → Entry → List (List ℕ) → List Row → List Row → Case
+on = with-settings lax
+
+abbrev strict : ℕ → Entry → List (List ℕ) → List Row → List Row → Case
+strict = with-settings (record { strict = true })
 
 -- a boundary of so many bytes; and a mail of POP3 up to its boundary
 abbrev bs : ℕ → List ℕ
@@ -124,13 +132,47 @@ sessions =
     ((8, 0, 5, 0) ∷ []) ∷
     []
 
+-- ---- the strict setting: document 02, W6
+
+-- a mail whose body has a bare LF before its dot line
+abbrev smuggled : List (List ℕ)
+smuggled = text "HELO\r\nMAIL FROM:\r\nDATA\r\n\r\na" ∷ text "\n.\r\n" ∷ []
+
+abbrev bare-lines : List Case
+bare-lines =
+    -- off, the mail ends there; on, the bare line is refused, and nothing of its window is taken
+    on 4 SmtpClient smuggled
+    ((26, 1, 26, 2) ∷ (5, 0, 31, 4) ∷ [])
+    ((1, 24, 2, 0) ∷ (2, 26, 0, 0) ∷ (3, 26, 2, 0) ∷ (6, 28, 0, 0) ∷ []) ∷
+    strict 4 SmtpClient smuggled
+    ((26, 1, 26, 2) ∷ (0, 11, 26, 2) ∷ [])
+    ((1, 24, 2, 0) ∷ (2, 26, 0, 0) ∷ []) ∷
+    -- ahead of 3
+    strict 0 SmtpClient (text "x\n" ∷ []) ((0, 11, 0, 0) ∷ []) [] ∷
+    -- ahead of the line's event, so of 10, and of done; a CR elsewhere in the line, or before it, does not count
+    strict 0 SmtpServer (text "221\n" ∷ []) ((0, 11, 0, 0) ∷ []) [] ∷
+    strict 1 SmtpServer (text "221\r \n" ∷ []) ((0, 11, 0, 0) ∷ []) [] ∷
+    -- a line that is only peeked at
+    strict 1 ImapClient (text "a APPEND {9}\r\n" ∷ text ":\n" ∷ [])
+    ((14, 1, 14, 1) ∷ (0, 11, 14, 1) ∷ [])
+    ((7, 0, 12, 0) ∷ []) ∷
+    -- a sized body is no line
+    strict 6 ImapClient (text "a APPEND {8}\r\nb:\r\n\r\n\n\n\r\n" ∷ [])
+    ((24, 1, 24, 6) ∷ [])
+    ((7, 0, 12, 0) ∷ (1, 14, 4, 0) ∷ (1, 18, 2, 0) ∷ (2, 20, 0, 0) ∷ (4, 20, 2, 0) ∷ (6, 22, 0, 0) ∷ []) ∷
+    -- nor are a preamble and a content; a line behind the close is one
+    strict 7 Pop3Server (retrieved (text "q\r\n\r\nx\n\r\n--q\r\n\r\ny\n\r\n--q--") ∷ text "z\n" ∷ [])
+    ((65, 1, 65, 7) ∷ (0, 11, 65, 7) ∷ [])
+    ((8, 0, 12, 0) ∷ (1, 14, 29, 0) ∷ (1, 43, 2, 0) ∷ (1, 54, 2, 0) ∷ (2, 56, 0, 0) ∷ (5, 56, 2, 0) ∷ (6, 58, 0, 0) ∷ []) ∷
+    []
+
 -- ---- records that would take long to come to
 
 -- one window shown to a record, with a table of two slots
 abbrev one : Record → List ℕ → Row → Case
 one r w wanted =
     record {
-      answers = row (window r (replicate 8 99) w .next .at - r .at) (window r (replicate 8 99) w .next) (window r (replicate 8 99) w .table);
+      answers = row (window lax r (replicate 8 99) w .next .at - r .at) (window lax r (replicate 8 99) w .next) (window lax r (replicate 8 99) w .table);
       wanted = flat (wanted ∷ []);
     }
 
@@ -162,8 +204,8 @@ abbrev Holds : List Case → Type 0
 Holds [] = Unit {0}
 Holds (c ∷ cs) = (c .answers ≡ c .wanted) × Holds cs
 
-both : Holds sessions × Holds records
-unfolding trace shows taken window refused lands landed keeps over said enter enters opens copied clipped takes does standResult standPlace word orElse standing
+all-hold : Holds sessions × Holds bare-lines × Holds records
+unfolding trace shows taken window strictly isBare refused lands landed keeps over said enter enters opens copied clipped takes does standResult standPlace word orElse standing
     pieceOf isAt isMark resultOf placeOf react reacts need wants run go turn fetch parted reach past first firstPlace holds stands found contains
     delimits mayStand startsWith same endsWith raised clean dropEnd upperOf isLetter isUpper isWhite isBlank isPopWhite isDigit store pour
     lead runs last lastPlace through worth worthBehind transferEncoding encodingNamed behindSpaces closed quoted unquoted typed named bareParameter
@@ -173,10 +215,17 @@ unfolding trace shows taken window refused lands landed keeps over said enter en
     appendSize holdsColon afterMail literalBody rest plainMail boundaryFree begun onHead onText onLiteral onPreamble onOpened held whole contentLength
     onContent outermost byRest skip onBetween lastLine popped onSkipping onResting onHello given bySecond onSecond onUser onPassword onSender onSeeking
     byRecipient onRecipient onReply onStatus onCommand onOffered onClosing
-both = ((refl, (refl, (refl, (refl, (refl, (refl, (refl, (refl, (refl, (refl, (refl, (refl, tt)))))))))))), (refl, (refl, (refl, (refl, tt)))))
+all-hold = (
+  (refl, (refl, (refl, (refl, (refl, (refl, (refl, (refl, (refl, (refl, (refl, (refl, tt)))))))))))),
+  (refl, (refl, (refl, (refl, (refl, (refl, (refl, (refl, tt)))))))),
+  (refl, (refl, (refl, (refl, tt)))),
+)
 
 pub computed : Holds sessions
-computed = both .0
+computed = all-hold .0
+
+pub strict-computed : Holds bare-lines
+strict-computed = all-hold .1
 
 pub of-records : Holds records
-of-records = both .1
+of-records = all-hold .2

@@ -1,6 +1,7 @@
 -- Where document 01 is done, it is done behind the piece that it read last; taken in pieces too.
 -- Assumes nothing.
 use mathlib.Core.Path.{_≡_, refl}
+use mathlib.Core.Bool.{_&&_}
 use mathlib.Core.List.{List, [], _∷_}
 use mathlib.Core.Option.{Option, none, some}
 use Prim.Native.Nat.{ℕ, zero, suc, _+_, _-_}
@@ -28,9 +29,11 @@ use Rattle.rules.specs.Phases.{Phase, State, reads, ends, need}
 use Rattle.rules.specs.Phases as phase
 use Rattle.rules.specs.Pop3.{onStatus}
 use Rattle.rules.specs.Sessions.{reacts, react}
+use Rattle.rules.specs.Strict.{isBare, strictly, reactWith}
 use Rattle.rules.specs.Smtp.{onHello, onSecond, bySecond, onUser, onPassword, onSender, onSeeking, onRecipient, byRecipient, onReply}
 use Rattle.rules.specs.declared.Mail.{Mail}
 use Rattle.rules.specs.declared.Mail.the-variants.{Smtp, Pop3, Imap}
+use Rattle.rules.specs.declared.Settings.{Settings}
 use Rattle.windows.proofs.Courses.{taking}
 use Rattle.windows.proofs.Firm.{either}
 use Rattle.windows.proofs.Marks.{got-none}
@@ -179,15 +182,20 @@ unfolding react need fetch reach parted
 react-done (reads ph) at s p r e = phase-done ph at p
 react-done (ends o q) at s p r e = absurd (got-none e)
 
-does-done : (f : Stand) (at : ℕ) (s p r : List ℕ) → takes f s ≡ got p r → StandDone f at → StandDone (does f at p .next) (at + length p)
-unfolding takes does onPreamble onContent onLiteral enter enters StandDone DoneAt
-does-done (fresh st) at s p r e h = enter-done (react st at p .next) (at + length p) (react-done st at s p r e)
-does-done (inPreamble m b os from here) at s p r e h =
-    either (λ (re : Reaction Stand). StandDone (re .next) (at + length p)) (isMark (word (dash b)) here p) tt tt
-does-done (inContent m x b os from here) at s p r e h =
-    either (λ (re : Reaction Stand). StandDone (re .next) (at + length p)) (isMark (word (dash b)) here p) tt tt
-does-done (inLiteral x from left) at s p r e h = either (λ (re : Reaction Stand). StandDone (re .next) (at + length p)) (eqb left 0) tt tt
+module _ (set : Settings) where
+  with-done : (st : State) (at : ℕ) (s p r : List ℕ) → fetch (need st) s ≡ got p r → DoneAt (at + length p) (reactWith set st at p .next)
+  unfolding strictly DoneAt
+  with-done st at s p r e = either (Leads (at + length p)) (isBare (need st) p && set .strict) (λ z. absurd (omega arith)) (react-done st at s p r e)
 
--- a run that is done is so where it stopped
-pub run-done : (f : Stand) (at : ℕ) (s : List ℕ) → StandDone f at → StandDone (pieces f at s .state) (pieces f at s .at)
-run-done = runs.run-keeps Stand takes does taking StandDone does-done
+  does-done : (f : Stand) (at : ℕ) (s p r : List ℕ) → takes f s ≡ got p r → StandDone f at → StandDone (does set f at p .next) (at + length p)
+  unfolding takes does onPreamble onContent onLiteral enter enters StandDone DoneAt
+  does-done (fresh st) at s p r e h = enter-done (reactWith set st at p .next) (at + length p) (with-done st at s p r e)
+  does-done (inPreamble m b os from here) at s p r e h =
+      either (λ (re : Reaction Stand). StandDone (re .next) (at + length p)) (isMark (word (dash b)) here p) tt tt
+  does-done (inContent m x b os from here) at s p r e h =
+      either (λ (re : Reaction Stand). StandDone (re .next) (at + length p)) (isMark (word (dash b)) here p) tt tt
+  does-done (inLiteral x from left) at s p r e h = either (λ (re : Reaction Stand). StandDone (re .next) (at + length p)) (eqb left 0) tt tt
+
+  -- a run that is done is so where it stopped
+  pub run-done : (f : Stand) (at : ℕ) (s : List ℕ) → StandDone f at → StandDone (pieces set f at s .state) (pieces set f at s .at)
+  run-done = runs.run-keeps Stand takes (does set) taking StandDone does-done

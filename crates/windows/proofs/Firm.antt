@@ -1,7 +1,7 @@
 -- A boundary is a part of a line, so that it holds an LF only as its last byte. What a session comes to keeps it so; then bytes added behind change no piece.
 -- Assumes nothing.
 use mathlib.Core.Path.{_≡_}
-use mathlib.Core.Bool.{Bool, true, false, cond}
+use mathlib.Core.Bool.{Bool, true, false, cond, _&&_}
 use mathlib.Core.List.{List, [], _∷_, _++_}
 use mathlib.Core.Option.{Option, none, some}
 use Prim.Native.Nat.{ℕ, zero, suc, _+_, _-_}
@@ -33,9 +33,11 @@ use Rattle.rules.specs.Phases.{Phase, State, reads, ends, need, wants}
 use Rattle.rules.specs.Phases as phase
 use Rattle.rules.specs.Pop3.{onStatus}
 use Rattle.rules.specs.Sessions.{reacts, react}
+use Rattle.rules.specs.Strict.{isBare, strictly, reactWith}
 use Rattle.rules.specs.Smtp.{onHello, onSecond, bySecond, onUser, onPassword, onSender, onSeeking, onRecipient, byRecipient, onReply}
 use Rattle.rules.specs.declared.Mail.{Mail}
 use Rattle.rules.specs.declared.Mail.the-variants.{Smtp, Pop3, Imap}
+use Rattle.rules.specs.declared.Settings.{Settings}
 use Rattle.windows.proofs.Delimiters.{LfLast, part-last, line-last, dash-last, word-marks, word-told}
 use Rattle.windows.proofs.Marks.{piece-holds}
 use Rattle.windows.specs.Pieces.{word, isMark}
@@ -205,6 +207,10 @@ unfolding react need FirmState
 state-firm (reads ph) at s p r g f = phase-firm ph at s p r g f
 state-firm (ends o q) at s p r g f = tt
 
+with-firm : (set : Settings) (st : State) (at : ℕ) (s p r : List ℕ) → FirmState st → fetch (need st) s ≡ got p r → Leads (reactWith set st at p)
+unfolding strictly FirmState
+with-firm set st at s p r g f = either Leads (isBare (need st) p && set .strict) tt (state-firm st at s p r g f)
+
 -- ---- and the stands
 copied-firm : (o : Option (List ℕ)) → MaybeLast o → MaybeLast (copied o)
 unfolding MaybeLast copied
@@ -243,12 +249,12 @@ enter-firm (ends r p) at g = tt
 abbrev Stays : Reaction Stand → Type 0
 Stays re = Firm (re .next)
 
-pub does-firm : (f : Stand) (at : ℕ) (s p r : List ℕ) → Firm f → takes f s ≡ got p r → Firm (does f at p .next)
+pub does-firm : (set : Settings) (f : Stand) (at : ℕ) (s p r : List ℕ) → Firm f → takes f s ≡ got p r → Firm (does set f at p .next)
 unfolding does takes onPreamble onContent onLiteral enter enters Firm FirmState FirmPhase
-does-firm (fresh st) at s p r g e = enter-firm (react st at p .next) (at + length p) (state-firm st at s p r g e)
-does-firm (inPreamble m b os from here) at s p r g e = either Stays (isMark (word (dash b)) here p) g g
-does-firm (inContent m x b os from here) at s p r g e = either Stays (isMark (word (dash b)) here p) g g
-does-firm (inLiteral x from left) at s p r g e = either Stays (eqb left 0) tt tt
+does-firm set (fresh st) at s p r g e = enter-firm (reactWith set st at p .next) (at + length p) (with-firm set st at s p r g e)
+does-firm set (inPreamble m b os from here) at s p r g e = either Stays (isMark (word (dash b)) here p) g g
+does-firm set (inContent m x b os from here) at s p r g e = either Stays (isMark (word (dash b)) here p) g g
+does-firm set (inLiteral x from left) at s p r g e = either Stays (eqb left 0) tt tt
 
 -- ---- bytes added behind change no piece
 pub takes-holds : (f : Stand) (s p r t : List ℕ) → Firm f → takes f s ≡ got p r → takes f (s ++ t) ≡ got p (r ++ t)

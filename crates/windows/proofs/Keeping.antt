@@ -14,6 +14,7 @@ use Rattle.events.specs.declared.Outcome.the-variants.{Incomplete}
 use Rattle.reading.proofs.Places.{by-test}
 use Rattle.rules.specs.Machine.{Ran}
 use Rattle.rules.specs.Sessions.{limit}
+use Rattle.rules.specs.declared.Settings.{Settings}
 use Rattle.windows.specs.Stands.{Stand, pieces}
 use Rattle.windows.specs.Windows.{Record, said, over, Shown, refused, landed, lands, window, Tap, shows, showsAll, lastly}
 
@@ -45,14 +46,14 @@ keeps-none : (t : List ℕ) (n : ℕ) (f : Final) → f .table ≡ t → f .coun
 keeps-none t n f a b = record { grown = omega arith; front = λ j h. ap (take j) a; behind = ap (drop (f .count * width)) a; long = ap length a }
 
 -- ---- a window leaves alone the numbers of the events before it, those past the count, and the table's length
-module _ (r : Record) (t w : List ℕ) where
+module _ (set : Settings) (r : Record) (t w : List ℕ) where
   abbrev o : Ran Stand
-  o = pieces (r .stand) (r .at) w
+  o = pieces set (r .stand) (r .at) w
 
   abbrev after : Shown → Final
   after g = said (g .next) (g .table)
 
-  pub window-keeps : Keeps t (r .log .count) (after (window r t w))
+  pub window-keeps : Keeps t (r .log .count) (after (window set r t w))
   unfolding window lands said refused
   window-keeps =
       by-test (over (r .stand))
@@ -65,7 +66,7 @@ module _ (r : Record) (t w : List ℕ) where
       (landed-table (r .at) o (pour (o .events) t (r .log))) (landed-count (r .at) o (pour (o .events) t (r .log))) (keeps (o .events) t (r .log) Incomplete 0))))
 
   -- and every event that it counts has a slot
-  pub window-room : r .log .count ≤ slots t → after (window r t w) .count ≤ slots t
+  pub window-room : r .log .count ≤ slots t → after (window set r t w) .count ≤ slots t
   unfolding window lands said refused
   window-room e =
       by-test (over (r .stand))
@@ -92,7 +93,7 @@ keeps-on {t} {n} {f} {h} a b =
 pub keeps-all : (x : Tap) (ws : List (List ℕ)) → Keeps (x .table) (x .session .log .count) (lastly (showsAll x ws))
 unfolding showsAll shows said
 keeps-all x [] = keeps-none (x .table) (x .session .log .count) (lastly x) refl refl
-keeps-all x (w ∷ ws) = keeps-on (window-keeps (x .session) (x .table) (x .untaken ++ w)) (keeps-all (shows x w) ws)
+keeps-all x (w ∷ ws) = keeps-on (window-keeps (x .settings) (x .session) (x .table) (x .untaken ++ w)) (keeps-all (shows x w) ws)
 
 -- and every event that they count has a slot
 pub room-all : (x : Tap) (ws : List (List ℕ)) → x .session .log .count ≤ slots (x .table) → lastly (showsAll x ws) .count ≤ slots (x .table)
@@ -100,5 +101,5 @@ unfolding showsAll shows said
 room-all x [] h = h
 room-all x (w ∷ ws) h =
     let v : List ℕ = x .untaken ++ w in
-    let s : slots (shows x w .table) ≡ slots (x .table) = ap (λ (m : ℕ). m / width) (window-keeps (x .session) (x .table) v .long) in
-    rw s at (room-all (shows x w) ws (rw s (window-room (x .session) (x .table) v h)))
+    let s : slots (shows x w .table) ≡ slots (x .table) = ap (λ (m : ℕ). m / width) (window-keeps (x .settings) (x .session) (x .table) v .long) in
+    rw s at (room-all (shows x w) ws (rw s (window-room (x .settings) (x .session) (x .table) v h)))

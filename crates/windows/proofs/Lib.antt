@@ -9,6 +9,7 @@ pub mod Firm
 pub mod Runs
 pub mod Cut
 pub mod Done
+pub mod Strict
 pub mod Taken
 pub mod Keeping
 pub mod Beyond

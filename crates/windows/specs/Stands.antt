@@ -11,13 +11,15 @@ use Rattle.events.specs.declared.Outcome.{Outcome}
 use Rattle.events.specs.declared.Outcome.the-variants.{Incomplete, LongBoundary}
 use Rattle.fields.specs.Common.{Known}
 use Rattle.reading.specs.Bytes.{endsWith}
-use Rattle.reading.specs.Reading.{crlf, dash, bytes, Got, fetch}
+use Rattle.reading.specs.Reading.{crlf, dash, Need, bytes, nothing, Got, fetch}
 use Rattle.rules.specs.Machine.{Reaction, Ran, run}
 use Rattle.rules.specs.Mail.{onLiteral, onPreamble, onContent}
-use Rattle.rules.specs.Phases.{Phase, State, reads, ends}
+use Rattle.rules.specs.Phases.{Phase, State, reads, ends, need}
 use Rattle.rules.specs.Phases as phase
-use Rattle.rules.specs.Sessions.{fetches, react, resultOf, placeOf}
+use Rattle.rules.specs.Sessions.{fetches, resultOf, placeOf}
+use Rattle.rules.specs.Strict.{Crlf, lax, reactWith}
 use Rattle.rules.specs.declared.Mail.{Mail}
+use Rattle.rules.specs.declared.Settings.{Settings}
 use Rattle.windows.specs.Pieces.{word, pieceOf, isMark}
 
 -- the longest boundary of which a copy is kept
@@ -84,23 +86,23 @@ takes (inLiteral e from left) s = fetch (bytes 0) s
 abbrev pub goesOn : Stand → Reaction Stand
 goesOn f = record { events = []; next = f }
 
-unfoldable pub does : Stand → ℕ → List ℕ → Reaction Stand
-does (fresh st) at l = entered (react st at l) (at + length l)
-does (inPreamble m b os from here) at l =
+unfoldable pub does : Settings → Stand → ℕ → List ℕ → Reaction Stand
+does set (fresh st) at l = entered (reactWith set st at l) (at + length l)
+does set (inPreamble m b os from here) at l =
     cond (isMark (word (dash b)) here l)
     (entered (onPreamble m b os) (at + length l))
     (goesOn (inPreamble m b os from (endsWith crlf l)))
-does (inContent m e b os from here) at l =
+does set (inContent m e b os from here) at l =
     cond (isMark (word (dash b)) here l)
     (entered (onContent m e b os from (at + length l - from)) (at + length l))
     (goesOn (inContent m e b os from (endsWith crlf l)))
-does (inLiteral e from left) at l =
+does set (inLiteral e from left) at l =
     cond (eqb left 0)
     (entered (onLiteral e from (at + length l - from)) (at + length l))
     (goesOn (inLiteral e from (left - 1)))
 
-abbrev pub pieces : Stand → ℕ → List ℕ → Ran Stand
-pieces f at s = run Stand takes does f at s
+abbrev pub pieces : Settings → Stand → ℕ → List ℕ → Ran Stand
+pieces set f at s = run Stand takes (does set) f at s
 
 -- ---- a read that waits is incomplete, where it began
 unfoldable pub standResult : Stand → Outcome
@@ -114,3 +116,13 @@ standPlace (fresh st) at = placeOf st at
 standPlace (inPreamble m b os from here) at = from
 standPlace (inContent m e b os from here) at = from
 standPlace (inLiteral e from left) at = from
+
+-- ---- a session all of whose lines end in CRLF. A read under way is no line
+unfoldable pub asks : Stand → Need
+asks (fresh st) = need st
+asks (inPreamble m b os from here) = nothing
+asks (inContent m e b os from here) = nothing
+asks (inLiteral e from left) = nothing
+
+abbrev pub InCrlf : Phase → List ℕ → Type 0
+InCrlf start s = Crlf asks (does lax) takes (enters start 0) 0 s

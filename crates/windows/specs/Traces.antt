@@ -17,7 +17,7 @@ answered r g = record { answer = said (g .next) (g .table); took = taken r g }
 
 unfoldable pub answers : Tap → List (List ℕ) → List Answered
 answers x [] = []
-answers x (w ∷ ws) = answered (x .session) (window (x .session) (x .table) (x .untaken ++ w)) ∷ answers (shows x w) ws
+answers x (w ∷ ws) = answered (x .session) (window (x .settings) (x .session) (x .table) (x .untaken ++ w)) ∷ answers (shows x w) ws
 
 -- cut alike: as many windows, and each as long
 unfoldable pub CutAlike : List (List ℕ) → List (List ℕ) → Type 0

@@ -13,6 +13,7 @@ use Rattle.events.specs.declared.Outcome.the-variants.{Done, TooLong, TableFull
 use Rattle.rules.specs.Machine.{Ran}
 use Rattle.rules.specs.Phases.{Phase, reads, ends}
 use Rattle.rules.specs.Sessions.{limit}
+use Rattle.rules.specs.declared.Settings.{Settings}
 use Rattle.windows.specs.Stands.{Stand, fresh, inPreamble, inContent, inLiteral, enters, pieces, standResult, standPlace}
 
 -- the record between windows: where the session stands, how many bytes are taken, and what its writer knows
@@ -58,12 +59,13 @@ landed base o (full t q log) = refused base t TableFull q log
 unfoldable pub lands : (base : ℕ) → List ℕ → Log → Ran Stand → Shown
 lands base t log o = landed base o (pour (o .events) t log)
 
--- the window w, the table being t. After an end nothing is taken, and the answer stays. The limit is on the session: 2 before the window is read
-unfoldable pub window : Record → List ℕ → List ℕ → Shown
-window r t w =
+-- the window w of a session with these settings, the table being t. After an end nothing is taken, and the answer stays. The limit is on the session:
+-- 2 before the window is read
+unfoldable pub window : Settings → Record → List ℕ → List ℕ → Shown
+window set r t w =
     cond (over (r .stand)) (record { next = r; table = t })
     (cond (ltb limit (r .at + length w)) (refused (r .at) t TooLong 0 (r .log))
-    (lands (r .at) t (r .log) (pieces (r .stand) (r .at) w)))
+    (lands (r .at) t (r .log) (pieces set (r .stand) (r .at) w)))
 
 -- how many of its bytes it took
 unfoldable pub taken : Record → Shown → ℕ
@@ -71,18 +73,19 @@ taken r g = g .next .at - r .at
 
 -- ---- windows one after another: each shows the untaken bytes again at its front, and new ones behind them
 pub record Tap : Type 0 where
+  pub settings : Settings
   pub session : Record
   pub table : List ℕ
   pub untaken : List ℕ
 
-abbrev pub tapped : Phase → List ℕ → Tap
-tapped start t = record { session = begins start; table = t; untaken = [] }
+abbrev pub tapped : Settings → Phase → List ℕ → Tap
+tapped set start t = record { settings = set; session = begins start; table = t; untaken = [] }
 
 unfoldable pub shows : Tap → List ℕ → Tap
 shows x w =
     let v : List ℕ = x .untaken ++ w in
-    let g : Shown = window (x .session) (x .table) v in
-    record { session = g .next; table = g .table; untaken = drop (taken (x .session) g) v }
+    let g : Shown = window (x .settings) (x .session) (x .table) v in
+    record { settings = x .settings; session = g .next; table = g .table; untaken = drop (taken (x .session) g) v }
 
 unfoldable pub showsAll : Tap → List (List ℕ) → Tap
 showsAll x [] = x

@@ -22,7 +22,7 @@ list-requires c _ =
     let called = told .before .before .before .before .before .before in
     let shown = called .show-all in
     let room = called .before .before .before .before .before .before .before .before in
-    (in-room (length (shown .last .1 .1 .1 .1 .0)) (shown .ensures) (told .text .given .1), omega (arith, shown .kept .1 .1 .1 .1 .0, start room .pre))
+    (in-room (length (shown .last .1 .1 .1 .1 .1 .0)) (shown .ensures) (told .text .given .1), omega (arith, shown .kept .1 .1 .1 .1 .1 .0, start room .pre))
 
 pub case-spec : {M : Type 1} → statement M
 case-spec =

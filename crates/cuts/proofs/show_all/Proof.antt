@@ -20,10 +20,10 @@ start c = c .before .before .before .before .before .before .before .before .bef
 
 -- ---- what is taken and the window's number stay below the slices' lengths
 add-at : tie.Need-add-at Inv-loop μ-loop
-add-at c = omega (arith, start (c .before .before .before .before .before) .good .1 .0 .0)
+add-at c = omega (arith, start (c .before .before .before .before .before) .good .1 .1 .0 .0)
 
 add-i : tie.Need-add-i Inv-loop μ-loop
-add-i c = omega (arith, start (c .before .before .before .before .before .before .before .before .before) .good .1 .1 .0 .0)
+add-i c = omega (arith, start (c .before .before .before .before .before .before .before .before .before) .good .1 .1 .1 .0 .0)
 
 pub show-all-spec : {M : Type 1} → statement M
 show-all-spec =

@@ -9,7 +9,7 @@ use Rattle.flat.proofs.numbers_of.Tie as tie
 returns : tie.Need-returns
 returns c =
     let a = c .before .before .args in
-    c .row .ensures ∙ ap (λ (f : Flat). row f (a .at) (a .log)) (c .before .flat-of .ensures)
+    c .row .ensures ∙ ap (λ (f : Flat). row (a .settings) f (a .at) (a .log)) (c .before .flat-of .ensures)
 
 pub numbers-of-spec : {M : Type 1} → statement M
 numbers-of-spec = tie.close (tie.spec (λ c κs. search needs) (λ c κs. search needs) returns)

@@ -59,28 +59,34 @@ returns-11 : tie.Need-returns-11
 unfolding outcomeOf
 returns-11 c = rw (c .match .keys11)
 
--- a long boundary
+-- a bare LF
 returns-12 : tie.Need-returns-12
 unfolding outcomeOf
 returns-12 c = rw (c .match .keys12)
 
--- no session, and any other number
+-- a long boundary
 returns-13 : tie.Need-returns-13
 unfolding outcomeOf
-returns-13 c =
+returns-13 c = rw (c .match .keys13)
+
+-- no session, and any other number
+returns-14 : tie.Need-returns-14
+unfolding outcomeOf
+returns-14 c =
     let none = c .match .rest in
     rw (
-      ne-eqb _ 0 (none .0 .0 .0 .0 .0 .0 .0 .0 .0 .0 .0 .1),
-      ne-eqb _ 1 (none .0 .0 .0 .0 .0 .0 .0 .0 .0 .0 .1),
-      ne-eqb _ 2 (none .0 .0 .0 .0 .0 .0 .0 .0 .0 .1),
-      ne-eqb _ 3 (none .0 .0 .0 .0 .0 .0 .0 .0 .1),
-      ne-eqb _ 4 (none .0 .0 .0 .0 .0 .0 .0 .1),
-      ne-eqb _ 5 (none .0 .0 .0 .0 .0 .0 .1),
-      ne-eqb _ 6 (none .0 .0 .0 .0 .0 .1),
-      ne-eqb _ 7 (none .0 .0 .0 .0 .1),
-      ne-eqb _ 8 (none .0 .0 .0 .1),
-      ne-eqb _ 9 (none .0 .0 .1),
-      ne-eqb _ 10 (none .0 .1),
+      ne-eqb _ 0 (none .0 .0 .0 .0 .0 .0 .0 .0 .0 .0 .0 .0 .1),
+      ne-eqb _ 1 (none .0 .0 .0 .0 .0 .0 .0 .0 .0 .0 .0 .1),
+      ne-eqb _ 2 (none .0 .0 .0 .0 .0 .0 .0 .0 .0 .0 .1),
+      ne-eqb _ 3 (none .0 .0 .0 .0 .0 .0 .0 .0 .0 .1),
+      ne-eqb _ 4 (none .0 .0 .0 .0 .0 .0 .0 .0 .1),
+      ne-eqb _ 5 (none .0 .0 .0 .0 .0 .0 .0 .1),
+      ne-eqb _ 6 (none .0 .0 .0 .0 .0 .0 .1),
+      ne-eqb _ 7 (none .0 .0 .0 .0 .0 .1),
+      ne-eqb _ 8 (none .0 .0 .0 .0 .1),
+      ne-eqb _ 9 (none .0 .0 .0 .1),
+      ne-eqb _ 10 (none .0 .0 .1),
+      ne-eqb _ 11 (none .0 .1),
       ne-eqb _ 12 (none .1),
     )
 
@@ -100,4 +106,5 @@ outcome-of-spec =
     returns-10
     returns-11
     returns-12
-    returns-13)
+    returns-13
+    returns-14)

@@ -5,8 +5,7 @@ use Rattle.flat.proofs.row_by.Tie as tie
 
 returns : tie.Need-returns
 returns c =
-    let said = c .before .before .before in
-    rw (said .encoding-number .ensures, c .before .before .result-number .ensures, c .before .bit .ensures, c .bit2 .ensures)
+    rw (c .before .before .before .before .encoding-number .ensures, c .before .before .before .result-number .ensures, c .before .before .bit .ensures, c .before .bit2 .ensures, c .bit3 .ensures)
 
 pub row-by-spec : {M : Type 1} → statement M
 row-by-spec =
@@ -16,6 +15,7 @@ row-by-spec =
     (λ c. search needs)
     (λ c κs. search needs)
     (λ c. search needs)
+    (λ c κs. search needs)
     (λ c κs. search needs)
     (λ c κs. search needs)
     returns)

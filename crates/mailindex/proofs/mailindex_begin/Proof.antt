@@ -8,17 +8,17 @@ use Rattle.mailindex.proofs.mailindex_begin.Tie as tie
 returns : tie.Need-returns
 returns c =
     let none = c .before .before .before in
-    rw (sym (none .before .before .entry-of .ensures) ∙ none .enum-told .given .1) (record { numbers = refl; copies = refl; result = c .result-number .ensures })
+    rw (sym (none .before .before .choice-of .ensures) ∙ none .enum-told .given .1) (record { numbers = refl; copies = refl; result = c .result-number .ensures })
 
 -- a session is begun
 returns-2 : tie.Need-returns-2
 returns-2 c =
     let begun = c .before .before .before .before in
     let chosen = begun .before .before in
-    rw (sym (chosen .before .before .entry-of .ensures) ∙ chosen .entry .given .1) (record {
+    rw (sym (chosen .before .before .choice-of .ensures) ∙ chosen .entry .given .1) (record {
       session = begun .begin .result;
       begun = begun .begin .ensures;
-      holds = record { numbers = c .before .numbers-of .ensures; copies = refl };
+      holds = record { numbers = rw (begun .begin .ensures .settings) (c .before .numbers-of .ensures); copies = refl };
       result = c .result-number2 .ensures;
     })
 

@@ -8,10 +8,10 @@ use Rattle.phases.proofs.advance.Statement.{statement}
 use Rattle.phases.proofs.advance.Tie as tie
 
 abbrev Inv-loop : tie.InvT-loop
-Inv-loop w base kept₀ table₀ now₀ kept table now = Arrived w base kept₀ table₀ now₀ kept table now
+Inv-loop settings w base kept₀ table₀ now₀ kept table now = Arrived settings w base kept₀ table₀ now₀ kept table now
 
 abbrev μ-loop : tie.MeasureT-loop
-μ-loop w base kept₀ table₀ now₀ kept table now = length w - now .taken
+μ-loop settings w base kept₀ table₀ now₀ kept table now = length w - now .taken
 
 -- no phase is passed yet
 loop-holds : tie.Need-loop-holds Inv-loop μ-loop
@@ -39,7 +39,7 @@ loop-again c =
     let called = next .before .before .before .before .before .before in
     let loop = called .before .before .before in
     let turned = rw (next .next .given .1) at (called .one-phase .ensures) in
-    let same = called .one-phase .kept .1 .1 .1 in
+    let same = called .one-phase .kept .1 .1 .1 .1 in
     arrived-on (loop .loop .inv) turned (same .0) (same .1 .0)
 
 -- ---- the window is over

@@ -162,7 +162,7 @@ returns-11 c =
 returns-12 : tie.Need-returns-12
 returns-12 c =
     let told = c .before in
-    record { slots = start (told .before .before) .pre .1 .slots; is = rw (told .enum-told11 .given .1) (c .closing .ensures _ _) }
+    record { slots = start (told .before .before) .pre .1 .slots; is = rw (told .enum-told11 .given .1) (c .closing .ensures _ _ _) }
 
 -- a header, which may copy a boundary
 returns-13 : tie.Need-returns-13
@@ -183,32 +183,32 @@ returns-15 : tie.Need-returns-15
 returns-15 c =
     let called = c .before .before in
     let told = called .before .before .before in
-    record { slots = start (told .before .before) .pre .1 .slots; is = rw (told .phase4 .given .1) (called .literal .ensures _) }
+    record { slots = start (told .before .before) .pre .1 .slots; is = rw (told .phase4 .given .1) (called .literal .ensures _ _) }
 
 -- a preamble
 returns-16 : tie.Need-returns-16
 returns-16 c =
     let told = c .before .before .before in
-    record { slots = start (told .before .before) .pre .1 .slots; is = rw (told .phase5 .given .1) (c .preamble .ensures _) }
+    record { slots = start (told .before .before) .pre .1 .slots; is = rw (told .phase5 .given .1) (c .preamble .ensures _ _) }
 
 -- an opened part
 returns-17 : tie.Need-returns-17
 returns-17 c =
     let told = c .before .before in
-    record { slots = start (told .before .before) .pre .1 .slots; is = rw (told .phase6 .given .1) (c .opened .ensures _ _) }
+    record { slots = start (told .before .before) .pre .1 .slots; is = rw (told .phase6 .given .1) (c .opened .ensures _ _ _) }
 
 -- a part's content
 returns-18 : tie.Need-returns-18
 returns-18 c =
     let called = c .before .before in
     let told = called .before .before .before .before in
-    record { slots = start (told .before .before) .pre .1 .slots; is = rw (told .phase7 .given .1) (called .content .ensures) }
+    record { slots = start (told .before .before) .pre .1 .slots; is = rw (told .phase7 .given .1) (called .content .ensures _) }
 
 -- between parts
 returns-19 : tie.Need-returns-19
 returns-19 c =
     let told = c .before .before .before in
-    record { slots = start (told .before .before) .pre .1 .slots; is = rw (told .phase8 .given .1) (c .between .ensures _) }
+    record { slots = start (told .before .before) .pre .1 .slots; is = rw (told .phase8 .given .1) (c .between .ensures _ _) }
 
 -- an epilogue
 returns-20 : tie.Need-returns-20
@@ -220,7 +220,7 @@ returns-20 c =
 returns-21 : tie.Need-returns-21
 returns-21 c =
     let told = c .before .before in
-    record { slots = start (told .before .before) .pre .1 .slots; is = rw (told .phase10 .given .1) (c .resting .ensures _ _) }
+    record { slots = start (told .before .before) .pre .1 .slots; is = rw (told .phase10 .given .1) (c .resting .ensures _ _ _) }
 
 -- the session is over
 returns-22 : tie.Need-returns-22

@@ -6,7 +6,7 @@ use Rattle.tap.proofs.answered.Tie as tie
 
 -- the spot as a record, and what it answers
 returns : tie.Need-returns
-returns c = λ k. record { session = refl; answer = λ u. c .answer-of .ensures k u; taken = refl }
+returns c = λ set k. record { session = refl; answer = λ u. c .answer-of .ensures k u; taken = refl }
 
 pub answered-spec : {M : Type 1} → statement M
 answered-spec = tie.close (tie.spec (λ c. search needs) (λ c κs. search needs) returns)

@@ -19,14 +19,14 @@ use Rattle.tap.proofs.show_lent.Tie as tie
 returns : tie.Need-returns
 returns c =
     let unsound = c .before in
-    rw (sym (unsound .before .sound .ensures) ∙ not-true _ (unsound .if1 .taken)) (record { is = c .no-session .ensures _ .is; table = refl })
+    rw (sym (unsound .before .sound .ensures) ∙ not-true _ (unsound .if1 .taken)) (record { is = c .no-session .ensures _ _ .is; table = refl })
 
 -- ---- a session
 abbrev start : tie.Else1 → tie.Start
 start c = c .before .before .before .before .before
 
 abbrev session : tie.Else1 → Session
-session c = let a = start c .args in sessionWith (a .phase) (a .at) (a .log) (a .kept .now)
+session c = let a = start c .args in sessionWith (a .settings) (a .phase) (a .at) (a .log) (a .kept .now)
 
 sound : (c : tie.Else1) → isSound (session c) ≡ true
 sound c = sym (c .before .sound .ensures) ∙ not-false _ (c .if1 .left)
@@ -46,7 +46,7 @@ returns-2 c =
     let there = asked .before in
     let s = session there in
     let ok = sound there in
-    rw ok (shows-over s ok (sym (asked .is-over .ensures (s .boundaries)) ∙ c .before .if2 .taken) (c .answered .ensures (s .boundaries)))
+    rw ok (shows-over s ok (sym (asked .is-over .ensures (s .boundaries)) ∙ c .before .if2 .taken) (c .answered .ensures (s .settings) (s .boundaries)))
 
 -- ---- it reads on
 abbrev session-of : tie.Else2 → tie.Else1
@@ -72,7 +72,7 @@ returns-3 c =
     let there = session-of (past .before) in
     let s = session there in
     let ok = sound there in
-    rw ok (shows-long s ok (reads-on (past .before)) (omega (arith, past .if3 .taken, at-most there)) (c .answered2 .ensures (s .boundaries)))
+    rw ok (shows-long s ok (reads-on (past .before)) (omega (arith, past .if3 .taken, at-most there)) (c .answered2 .ensures (s .settings) (s .boundaries)))
 
 -- ---- a window that is read
 fits : (c : tie.Else3) →
@@ -101,7 +101,7 @@ returns-4 c =
     let read = advanced .before .before .before in
     let there = session-of (read .before) in
     let ok = sound there in
-    rw ok (shows-read (session there) ok (reads-on (read .before)) (fits read) (advanced .advance .ensures) (c .answered3 .ensures _))
+    rw ok (shows-read (session there) ok (reads-on (read .before)) (fits read) (advanced .advance .ensures) (c .answered3 .ensures _ _))
 
 pub show-lent-spec : {M : Type 1} → statement M
 show-lent-spec =

@@ -14,7 +14,7 @@ use Rattle.phases.proofs.bodies.literal.Tie as tie
 -- they are not: all that are shown are taken
 returns : tie.Need-returns
 unfolding stateOf
-returns c = let pre = c .before .before .before .pre in λ k. literal-waits _ _ _ (pre .1) (c .if1 .taken) (pre .2)
+returns c = let pre = c .before .before .before .pre in λ set k. literal-waits _ _ _ (pre .1) (c .if1 .taken) (pre .2)
 
 -- they are: the literal is listed, or the table is full
 returns-2 : tie.Need-returns-2
@@ -22,7 +22,7 @@ unfolding onLiteral stateOf enter enters Fits
 returns-2 c =
     let held = c .before .before .before in
     let r = held .hold .result in
-    λ k.
+    λ set k.
     rw (c .onward .ensures)
     (leads (literal-piece _ _ _ _ (omega arith)) k _ _ r (held .hold .last .0) is.Closing (held .hold .ensures) (record { is = refl; fits = tt }))
 

@@ -5,10 +5,10 @@ use Rattle.reading.specs.Reading.{aLine}
 use Rattle.reads.specs.Contracts.{Ends}
 use Rattle.rules.specs.Phases.{hello, wants}
 use Rattle.windows.specs.Stands.{enter, enters}
-use Rattle.phases.specs.Phasing.{stateOf, Fits}
+use Rattle.phases.specs.Phasing.{stateOf, Fits, Passes}
 use Rattle.phases.specs.declared.Phase.the-variants as is
 use Rattle.phases.proofs.Reactions.{hello-yes, hello-not}
-use Rattle.phases.proofs.Turning.{piece-of, waits-whole, leads-still}
+use Rattle.phases.proofs.Turning.{piece-of, leads-still, halts}
 use borrow.Author.Needs.{needs}
 use Rattle.phases.proofs.envelope.hello.Statement.{statement}
 use Rattle.phases.proofs.envelope.hello.Tie as tie
@@ -16,20 +16,20 @@ use Rattle.phases.proofs.envelope.hello.Tie as tie
 -- ---- a line that ends at e
 read : (c : tie.After-e) →
     let a = c .before .before .before .before .args in
-    Ends aLine (a .w .now) (a .p) (c .e .given .0 .0)
+    Passes (a .settings) (a .w .now) (a .p) (c .e .given .0 .0)
 read c = rw (c .e .given .1) at (c .before .before .line .ensures)
 
 -- it ends behind p
 sub-starts-with-helo : tie.Need-sub-starts-with-helo
-sub-starts-with-helo c = omega (arith, read (c .before) .on)
+sub-starts-with-helo c = omega (arith, read (c .before) .ends .on)
 
 -- so that it is a part of the window
 part-starts-with-helo-start : tie.Need-part-starts-with-helo-start
-part-starts-with-helo-start c = omega (arith, read (c .before) .on)
+part-starts-with-helo-start c = omega (arith, read (c .before) .ends .on)
 
 -- and not behind its end
 part-starts-with-helo-end : tie.Need-part-starts-with-helo-end
-part-starts-with-helo-end c = read (c .before) .within
+part-starts-with-helo-end c = read (c .before) .ends .within
 
 -- HELO or EHLO: a second line follows
 returns : tie.Need-returns
@@ -38,15 +38,17 @@ returns c =
     let asked = c .before in
     let line = read (asked .before .before .before) in
     let helo = sym (asked .starts-with-helo .ensures) ∙ c .if1 .taken in
-    λ k t. leads-still (piece-of hello line (hello-yes _ _ helo)) refl (record { is = refl; fits = tt })
+    λ k t. leads-still (piece-of hello (line .ends) (line .passes) (hello-yes _ _ helo)) refl (record { is = refl; fits = tt })
 
--- ---- no line is finished: the window is over
+-- ---- no line is finished, or it is refused: it begins before the limit
+halted-requires : tie.Need-halted-requires
+halted-requires c κs = omega (arith, c .before .before .before .before .before .pre .0, c .before .before .before .before .before .pre .1)
+
+-- the window is over
 returns-2 : tie.Need-returns-2
 unfolding wants stateOf Fits
 returns-2 c =
-    let called = c .before .before in
-    let pre = called .before .before .pre in
-    λ k t. waits-whole is.Hello hello refl (rw (c .enum-told .given .1) at (called .line .ensures)) (pre .1) tt
+    λ k t. rw (c .halted .ensures) (halts _ k t _ is.Hello hello refl refl (rw (c .before .before .o .given .1) at (c .before .before .before .before .line .ensures)) (c .before .before .before .before .before .before .pre .1) tt)
 
 -- ---- neither HELO nor EHLO: the session is over
 returns-3 : tie.Need-returns-3
@@ -55,7 +57,7 @@ returns-3 c =
     let asked = c .before in
     let line = read (asked .before .before .before) in
     let other = sym (asked .starts-with-helo .ensures) ∙ c .if1 .left in
-    λ k t. leads-still (piece-of hello line (hello-not _ _ other)) refl (record { is = refl; fits = tt })
+    λ k t. leads-still (piece-of hello (line .ends) (line .passes) (hello-not _ _ other)) refl (record { is = refl; fits = tt })
 
 pub hello-spec : {M : Type 1} → statement M
 hello-spec =
@@ -63,6 +65,7 @@ hello-spec =
     (tie.spec
     (λ c κs. search needs)
     (λ c. search needs)
+    halted-requires
     (λ c. search needs)
     sub-starts-with-helo
     part-starts-with-helo-start

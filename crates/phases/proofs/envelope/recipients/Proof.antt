@@ -11,19 +11,19 @@ use Rattle.reads.proofs.Laws.{begun-smtp}
 use Rattle.reads.specs.Contracts.{Cleaned}
 use Rattle.rules.specs.Phases.{reads, recipient, wants}
 use Rattle.windows.specs.Stands.{fresh}
-use Rattle.phases.specs.Phasing.{stateOf, Fits}
+use Rattle.phases.specs.Phasing.{stateOf, Fits, CleanPasses}
 use Rattle.phases.specs.declared.Phase.the-variants as is
 use Rattle.phases.proofs.Reactions.{recipient-data, recipient-by}
-use Rattle.phases.proofs.Turning.{piece-of, waits-whole, leads-still, first-head, Looped, not-yet, looped-again, looped-leaves, looped-goes}
+use Rattle.phases.proofs.Turning.{piece-of, leads-still, first-head, Looped, not-yet, looped-again, looped-leaves, halts, looped-turn}
 use borrow.Author.Needs.{needs}
 use Rattle.phases.proofs.envelope.recipients.Statement.{statement}
 use Rattle.phases.proofs.envelope.recipients.Tie as tie
 
 abbrev Inv-loop : tie.InvT-loop
-Inv-loop w base at table₀ p₀ n₀ table p n = Looped w base at table₀ n₀ (fresh (reads recipient)) p table n
+Inv-loop settings w base at table₀ p₀ n₀ table p n = Looped settings w base at table₀ n₀ (fresh (reads recipient)) p table n
 
 abbrev μ-loop : tie.MeasureT-loop
-μ-loop w base at table₀ p₀ n₀ table p n = length w - p
+μ-loop settings w base at table₀ p₀ n₀ table p n = length w - p
 
 -- ---- the loop
 abbrev start : tie.At-loop Inv-loop μ-loop → tie.Start Inv-loop μ-loop
@@ -37,13 +37,17 @@ loop-holds c = not-yet (c .before .before .pre .1)
 clean-line-requires : tie.Need-clean-line-requires Inv-loop μ-loop
 clean-line-requires c κs = c .loop .inv .came .within
 
--- no line is finished: the window is over
+-- no line is finished, or it is refused: it begins before the limit
+halted-requires : tie.Need-halted-requires Inv-loop μ-loop
+halted-requires c κs = omega (arith, c .before .before .before .before .loop .inv .came .within, c .before .before .before .before .before .before .before .pre .0)
+
+-- the window is over
 returns : tie.Need-returns Inv-loop μ-loop
 unfolding wants stateOf Fits
 returns c =
-    let called = c .before .before in
-    let inv = called .before .loop .inv in
-    λ k. looped-goes inv (waits-whole is.Recipient recipient refl (rw (c .enum-told .given .1) at (called .clean-line .ensures)) (inv .came .within) tt)
+    let inv = c .before .before .before .before .before .loop .inv in
+    let here = rw (c .before .before .o .given .1) at (c .before .before .before .before .clean-line .ensures) in
+    λ k. looped-turn inv k _ (c .halted .result) (rw (c .halted .ensures) (halts _ k _ _ is.Recipient recipient refl refl here (inv .came .within) tt))
 
 -- ---- a line that ends at e, its clean part at `end`
 abbrev loop-of : tie.After-end Inv-loop μ-loop → tie.At-loop Inv-loop μ-loop
@@ -51,20 +55,20 @@ loop-of c = c .before .before .before
 
 line-to : (c : tie.After-end Inv-loop μ-loop) →
     let loop = loop-of c in
-    Cleaned (start loop .args .w .now) (loop .loop .p) (c .end .given .0 .0) (c .end .given .0 .1 .0)
+    CleanPasses (start loop .args .settings) (start loop .args .w .now) (loop .loop .p) (c .end .given .0 .0) (c .end .given .0 .1 .0)
 line-to c = rw (c .end .given .1) at (c .before .before .clean-line .ensures)
 
 -- it ends behind p
 sub-is-data : tie.Need-sub-is-data Inv-loop μ-loop
-sub-is-data c = line-to (c .before) .from
+sub-is-data c = line-to (c .before) .line .from
 
 -- so that it is a part of the window
 part-is-data-start : tie.Need-part-is-data-start Inv-loop μ-loop
-part-is-data-start c = line-to (c .before) .from
+part-is-data-start c = line-to (c .before) .line .from
 
 -- and not behind its end
 part-is-data-end : tie.Need-part-is-data-end Inv-loop μ-loop
-part-is-data-end c = let line = line-to (c .before) in omega (arith, line .within, line .ends .within)
+part-is-data-end c = let line = line-to (c .before) in omega (arith, line .line .within, line .line .ends .within)
 
 -- DATA: a mail follows
 returns-2 : tie.Need-returns-2 Inv-loop μ-loop
@@ -76,7 +80,7 @@ returns-2 c =
     let is-data = sym (found .before .is-data .ensures) ∙ found .if1 .taken in
     λ k.
     looped-leaves (loop-of end .loop .inv)
-    (leads-still (piece-of recipient (line .ends) (recipient-data _ line is-data)) refl (first-head k _ begun-smtp (c .unheard .ensures)))
+    (leads-still (piece-of recipient (line .line .ends) (line .passes) (recipient-data _ (line .line) is-data)) refl (first-head k _ begun-smtp (c .unheard .ensures)))
 
 -- ---- not DATA: a recipient is read
 abbrev end-of : tie.Else1 Inv-loop μ-loop → tie.After-end Inv-loop μ-loop
@@ -92,7 +96,7 @@ recipient-requires : tie.Need-recipient-requires Inv-loop μ-loop
 recipient-requires c κs =
     let end = end-of (c .before) in
     let line = line-to end in
-    (start (loop-of end) .pre .0, line .from, omega (arith, line .within, line .ends .within))
+    (start (loop-of end) .pre .0, line .line .from, omega (arith, line .line .within, line .line .ends .within))
 
 -- none is given, or the table is full: the session is over
 returns-3 : tie.Need-returns-3 Inv-loop μ-loop
@@ -106,14 +110,14 @@ returns-3 c =
     λ k.
     rw (c .over .ensures)
     (looped-leaves (loop-of (end-of other) .loop .inv)
-    (read .is _ .is k _ (piece-of recipient (line .ends) (recipient-by _ line (no-data other)))))
+    (read .is _ .is _ k _ (piece-of recipient (line .line .ends) (line .passes) (recipient-by _ (line .line) (no-data other)))))
 
 -- it is listed: fewer bytes are left behind the line
 loop-less : tie.Need-loop-less Inv-loop μ-loop
 loop-less c =
     let called = c .before .before .before .before .before in
     let line = line-to (end-of (called .before .before)) in
-    omega (arith, line .ends .on, line .ends .within)
+    omega (arith, line .line .ends .on, line .line .ends .within)
 
 -- another line
 loop-again : tie.Need-loop-again Inv-loop μ-loop
@@ -124,7 +128,7 @@ loop-again c =
     let line = line-to (end-of other) in
     let read = rw (c .before .next .given .1) at (called .recipient .ensures) in
     looped-again (loop-of (end-of other) .loop .inv)
-    (read .is _ .is [] _ (piece-of recipient (line .ends) (recipient-by _ line (no-data other)))) refl (called .recipient .kept .1 .1 .1 .1 .0)
+    (read .is _ .is _ [] _ (piece-of recipient (line .line .ends) (line .passes) (recipient-by _ (line .line) (no-data other)))) refl (called .recipient .kept .1 .1 .1 .1 .0)
 
 pub recipients-spec : {M : Type 1} → statement M
 recipients-spec =
@@ -135,6 +139,7 @@ recipients-spec =
     loop-holds
     clean-line-requires
     (λ c. search needs)
+    halted-requires
     (λ c. search needs)
     returns
     (λ c. search needs)

@@ -6,19 +6,19 @@ use lib.ListN.{length}
 use Rattle.reads.specs.Contracts.{Cleaned}
 use Rattle.rules.specs.Phases.{reads, seeking, wants}
 use Rattle.windows.specs.Stands.{fresh, enter, enters}
-use Rattle.phases.specs.Phasing.{stateOf, Fits}
+use Rattle.phases.specs.Phasing.{stateOf, Fits, CleanPasses}
 use Rattle.phases.specs.declared.Phase.the-variants as is
 use Rattle.phases.proofs.Reactions.{seeking-from, seeking-on}
-use Rattle.phases.proofs.Turning.{piece-of, waits-whole, Looped, not-yet, looped-still, looped-goes, looped-turn}
+use Rattle.phases.proofs.Turning.{piece-of, Looped, not-yet, looped-still, looped-turn, halts}
 use borrow.Author.Needs.{needs}
 use Rattle.phases.proofs.envelope.seeking.Statement.{statement}
 use Rattle.phases.proofs.envelope.seeking.Tie as tie
 
 abbrev Inv-loop : tie.InvT-loop
-Inv-loop w base at table₀ log p₀ table p = Looped w base at table₀ log (fresh (reads seeking)) p table log
+Inv-loop settings w base at table₀ log p₀ table p = Looped settings w base at table₀ log (fresh (reads seeking)) p table log
 
 abbrev μ-loop : tie.MeasureT-loop
-μ-loop w base at table₀ log p₀ table p = length w - p
+μ-loop settings w base at table₀ log p₀ table p = length w - p
 
 -- ---- the loop
 abbrev start : tie.At-loop Inv-loop μ-loop → tie.Start Inv-loop μ-loop
@@ -32,13 +32,17 @@ loop-holds c = not-yet (c .before .before .pre .1)
 clean-line-requires : tie.Need-clean-line-requires Inv-loop μ-loop
 clean-line-requires c κs = c .loop .inv .came .within
 
--- no line is finished: the window is over
+-- no line is finished, or it is refused: it begins before the limit
+halted-requires : tie.Need-halted-requires Inv-loop μ-loop
+halted-requires c κs = omega (arith, c .before .before .before .before .loop .inv .came .within, c .before .before .before .before .before .before .before .pre .0)
+
+-- the window is over
 returns : tie.Need-returns Inv-loop μ-loop
 unfolding wants stateOf Fits
 returns c =
-    let called = c .before .before in
-    let inv = called .before .loop .inv in
-    λ k. looped-goes inv (waits-whole is.Seeking seeking refl (rw (c .enum-told .given .1) at (called .clean-line .ensures)) (inv .came .within) tt)
+    let inv = c .before .before .before .before .before .loop .inv in
+    let here = rw (c .before .before .o .given .1) at (c .before .before .before .before .clean-line .ensures) in
+    λ k. looped-turn inv k _ (c .halted .result) (rw (c .halted .ensures) (halts _ k _ _ is.Seeking seeking refl refl here (inv .came .within) tt))
 
 -- ---- a line that ends at e, its clean part at `end`
 abbrev loop-of : tie.After-end Inv-loop μ-loop → tie.At-loop Inv-loop μ-loop
@@ -46,20 +50,20 @@ loop-of c = c .before .before .before
 
 line-to : (c : tie.After-end Inv-loop μ-loop) →
     let loop = loop-of c in
-    Cleaned (start loop .args .w .now) (loop .loop .p) (c .end .given .0 .0) (c .end .given .0 .1 .0)
+    CleanPasses (start loop .args .settings) (start loop .args .w .now) (loop .loop .p) (c .end .given .0 .0) (c .end .given .0 .1 .0)
 line-to c = rw (c .end .given .1) at (c .before .before .clean-line .ensures)
 
 -- it ends behind p
 sub-is-mail-from : tie.Need-sub-is-mail-from Inv-loop μ-loop
-sub-is-mail-from c = line-to (c .before) .from
+sub-is-mail-from c = line-to (c .before) .line .from
 
 -- so that it is a part of the window
 part-is-mail-from-start : tie.Need-part-is-mail-from-start Inv-loop μ-loop
-part-is-mail-from-start c = line-to (c .before) .from
+part-is-mail-from-start c = line-to (c .before) .line .from
 
 -- and not behind its end
 part-is-mail-from-end : tie.Need-part-is-mail-from-end Inv-loop μ-loop
-part-is-mail-from-end c = let line = line-to (c .before) in omega (arith, line .within, line .ends .within)
+part-is-mail-from-end c = let line = line-to (c .before) in omega (arith, line .line .within, line .line .ends .within)
 
 -- whether it begins MAIL FROM: was asked
 abbrev end-of : tie.After-is-mail-from Inv-loop μ-loop → tie.After-end Inv-loop μ-loop
@@ -70,7 +74,7 @@ tried-requires : tie.Need-tried-requires Inv-loop μ-loop
 tried-requires c κs =
     let end = end-of (c .before .before) in
     let line = line-to end in
-    (start (loop-of end) .pre .0, line .from, line .within, line .ends .within)
+    (start (loop-of end) .pre .0, line .line .from, line .line .within, line .line .ends .within)
 
 -- and it is tried
 returns-2 : tie.Need-returns-2 Inv-loop μ-loop
@@ -83,11 +87,11 @@ returns-2 c =
     let from = sym (found .before .is-mail-from .ensures) ∙ found .if1 .taken in
     λ k.
     looped-turn (loop-of end .loop .inv) k _ (called .tried .result)
-    (called .tried .ensures .is k _ (piece-of seeking (line .ends) (seeking-from _ line from)))
+    (called .tried .ensures .is _ k _ (piece-of seeking (line .line .ends) (line .passes) (seeking-from _ (line .line) from)))
 
 -- it does not: fewer bytes are left behind it
 loop-less : tie.Need-loop-less Inv-loop μ-loop
-loop-less c = let line = line-to (end-of (c .before)) in omega (arith, line .ends .on, line .ends .within)
+loop-less c = let line = line-to (end-of (c .before)) in omega (arith, line .line .ends .on, line .line .ends .within)
 
 -- it is skipped
 loop-again : tie.Need-loop-again Inv-loop μ-loop
@@ -96,7 +100,7 @@ loop-again c =
     let end = end-of (c .before) in
     let line = line-to end in
     let other = sym (c .before .is-mail-from .ensures) ∙ c .if1 .left in
-    looped-still (loop-of end .loop .inv) (piece-of seeking (line .ends) (seeking-on _ line other)) refl refl
+    looped-still (loop-of end .loop .inv) (piece-of seeking (line .line .ends) (line .passes) (seeking-on _ (line .line) other)) refl refl
 
 pub seeking-spec : {M : Type 1} → statement M
 seeking-spec =
@@ -107,6 +111,7 @@ seeking-spec =
     loop-holds
     clean-line-requires
     (λ c. search needs)
+    halted-requires
     (λ c. search needs)
     returns
     (λ c. search needs)

@@ -1,11 +1,12 @@
 -- `phases::envelope::sender` meets its contract: the line is tried. Assumes nothing.
+use native.Mathlib.Omega.{arith}
 use mathlib.Core.Path.{refl}
 use Rattle.reads.specs.Contracts.{Cleaned}
 use Rattle.rules.specs.Phases.{sender, wants}
-use Rattle.phases.specs.Phasing.{stateOf, Fits}
+use Rattle.phases.specs.Phasing.{stateOf, Fits, CleanPasses}
 use Rattle.phases.specs.declared.Phase.the-variants as is
 use Rattle.phases.proofs.Reactions.{sender-by}
-use Rattle.phases.proofs.Turning.{piece-of, waits-whole}
+use Rattle.phases.proofs.Turning.{piece-of, halts}
 use borrow.Author.Needs.{needs}
 use Rattle.phases.proofs.envelope.sender.Statement.{statement}
 use Rattle.phases.proofs.envelope.sender.Tie as tie
@@ -16,7 +17,7 @@ start c = c .before .before .before .before .before
 
 line-to : (c : tie.After-end) →
     let a = start c .args in
-    Cleaned (a .w .now) (a .p) (c .end .given .0 .0) (c .end .given .0 .1 .0)
+    CleanPasses (a .settings) (a .w .now) (a .p) (c .end .given .0 .0) (c .end .given .0 .1 .0)
 line-to c = rw (c .end .given .1) at (c .before .before .clean-line .ensures)
 
 -- its ends are in order
@@ -24,15 +25,17 @@ tried-requires : tie.Need-tried-requires
 tried-requires c κs =
     let end = c .before .before in
     let line = line-to end in
-    (start end .pre .0, line .from, line .within, line .ends .within)
+    (start end .pre .0, line .line .from, line .line .within, line .line .ends .within)
 
--- ---- no line is finished: the window is over
+-- ---- no line is finished, or it is refused: it begins before the limit
+halted-requires : tie.Need-halted-requires
+halted-requires c κs = omega (arith, c .before .before .before .before .before .before .pre .0, c .before .before .before .before .before .before .pre .1)
+
+-- the window is over
 returns : tie.Need-returns
 unfolding wants stateOf Fits
 returns c =
-    let called = c .before .before in
-    let pre = called .before .before .before .pre in
-    λ k. waits-whole is.Sender sender refl (rw (c .enum-told .given .1) at (called .clean-line .ensures)) (pre .1) tt
+    λ k. rw (c .halted .ensures) (halts _ k _ _ is.Sender sender refl refl (rw (c .before .before .o .given .1) at (c .before .before .before .before .clean-line .ensures)) (c .before .before .before .before .before .before .before .pre .1) tt)
 
 -- ---- the line is tried
 returns-2 : tie.Need-returns-2
@@ -40,7 +43,7 @@ unfolding wants stateOf
 returns-2 c =
     let called = c .before .before in
     let line = line-to (called .before .before .before) in
-    λ k. called .tried .ensures .is k _ (piece-of sender (line .ends) (sender-by _ line))
+    λ k. called .tried .ensures .is _ k _ (piece-of sender (line .line .ends) (line .passes) (sender-by _ (line .line)))
 
 pub sender-spec : {M : Type 1} → statement M
 sender-spec =
@@ -48,6 +51,7 @@ sender-spec =
     (tie.spec
     (λ c κs. search needs)
     (λ c. search needs)
+    halted-requires
     (λ c. search needs)
     tried-requires
     returns

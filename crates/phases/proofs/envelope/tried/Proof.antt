@@ -38,7 +38,7 @@ returns : tie.Need-returns
 unfolding stateOf enter enters Fits
 returns c =
     let none = sym (c .before .before .mail-from .ensures) ∙ c .enum-told .given .1 in
-    record { is = λ k f d. leads-still (tried-none _ d none) refl (record { is = refl; fits = tt }) }
+    record { is = λ set k f d. leads-still (tried-none _ d none) refl (record { is = refl; fits = tt }) }
 
 -- ---- one is given: it is listed, or the table is full
 returns-2 : tie.Need-returns-2
@@ -49,7 +49,7 @@ returns-2 c =
     let address = sym (given .before .before .mail-from .ensures) ∙ given .o .given .1 in
     let r = noted .note .result in
     record {
-      is = λ k f d.
+      is = λ set k f d.
           rw (c .onward .ensures)
           (leads (tried-given _ d address) k _ _ r (noted .note .last .0) is.Recipient (noted .note .ensures) (record { is = refl; fits = tt }));
     }

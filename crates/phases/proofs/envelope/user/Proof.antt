@@ -4,10 +4,10 @@ use native.Mathlib.Omega.{arith}
 use Rattle.reads.specs.Contracts.{Cleaned}
 use Rattle.rules.specs.Phases.{user, wants}
 use Rattle.windows.specs.Stands.{enter, enters}
-use Rattle.phases.specs.Phasing.{stateOf, Fits}
+use Rattle.phases.specs.Phasing.{stateOf, Fits, CleanPasses}
 use Rattle.phases.specs.declared.Phase.the-variants as is
 use Rattle.phases.proofs.Reactions.{user-by}
-use Rattle.phases.proofs.Turning.{piece-of, waits-whole, leads}
+use Rattle.phases.proofs.Turning.{piece-of, leads, halts}
 use borrow.Author.Needs.{needs}
 use Rattle.phases.proofs.envelope.user.Statement.{statement}
 use Rattle.phases.proofs.envelope.user.Tie as tie
@@ -18,26 +18,28 @@ start c = c .before .before .before .before .before
 
 line-to : (c : tie.After-end) →
     let a = start c .args in
-    Cleaned (a .w .now) (a .p) (c .end .given .0 .0) (c .end .given .0 .1 .0)
+    CleanPasses (a .settings) (a .w .now) (a .p) (c .end .given .0 .0) (c .end .given .0 .1 .0)
 line-to c = rw (c .end .given .1) at (c .before .before .clean-line .ensures)
 
 -- its clean part ends behind p
 sub-note : tie.Need-sub-note
-sub-note c = line-to (c .before .before) .from
+sub-note c = line-to (c .before .before) .line .from
 
 -- where it begins and how long it is fit a slot of the table
 note-requires : tie.Need-note-requires
 note-requires c κs =
     let line = line-to (c .before .before) in
-    (omega (arith, line .ends .on, line .ends .within), omega (arith, line .within, line .ends .within))
+    (omega (arith, line .line .ends .on, line .line .ends .within), omega (arith, line .line .within, line .line .ends .within))
 
--- ---- no line is finished: the window is over
+-- ---- no line is finished, or it is refused: it begins before the limit
+halted-requires : tie.Need-halted-requires
+halted-requires c κs = omega (arith, c .before .before .before .before .before .before .pre .0, c .before .before .before .before .before .before .pre .1)
+
+-- the window is over
 returns : tie.Need-returns
 unfolding wants stateOf Fits
 returns c =
-    let called = c .before .before in
-    let pre = called .before .before .before .pre in
-    λ k. waits-whole is.User user refl (rw (c .enum-told .given .1) at (called .clean-line .ensures)) (pre .1) tt
+    λ k. rw (c .halted .ensures) (halts _ k _ _ is.User user refl refl (rw (c .before .before .o .given .1) at (c .before .before .before .before .clean-line .ensures)) (c .before .before .before .before .before .before .before .pre .1) tt)
 
 -- ---- the line is listed, or the table is full
 returns-2 : tie.Need-returns-2
@@ -48,7 +50,7 @@ returns-2 c =
     let r = noted .note .result in
     λ k.
     rw (c .onward .ensures)
-    (leads (piece-of user (line .ends) (user-by _ line)) k _ _ r (noted .note .last .0) is.Password (noted .note .ensures) (record { is = refl; fits = tt }))
+    (leads (piece-of user (line .line .ends) (line .passes) (user-by _ (line .line))) k _ _ r (noted .note .last .0) is.Password (noted .note .ensures) (record { is = refl; fits = tt }))
 
 pub user-spec : {M : Type 1} → statement M
 user-spec =
@@ -56,6 +58,7 @@ user-spec =
     (tie.spec
     (λ c κs. search needs)
     (λ c. search needs)
+    halted-requires
     (λ c. search needs)
     (λ c. search needs)
     sub-note

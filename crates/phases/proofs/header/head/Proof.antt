@@ -7,16 +7,17 @@ use borrow.Author.Needs.{needs}
 use Rattle.reading.specs.Reading.{aLine}
 use Rattle.reads.specs.Contracts.{Ends}
 use Rattle.phases.specs.declared.Phase.the-variants.{Head}
-use Rattle.phases.proofs.Heading.{HeadAt, head-start, head-short, head-full, head-on, head-begun, begins-later}
+use Rattle.phases.proofs.Heading.{HeadAt, head-start, head-halts, head-full, head-on, head-begun, begins-later}
+use Rattle.phases.specs.Phasing.{Passes}
 use Rattle.phases.proofs.header.head.Statement.{statement}
 use Rattle.phases.proofs.header.head.Tie as tie
 
 abbrev Inv-loop : tie.InvT-loop
-Inv-loop w base at mail level kept₀ table₀ p₀ n₀ known₀ t20 kept table p n known =
-    HeadAt w base at kept₀ table₀ n₀ (Head mail known₀ level) mail known level kept p table n
+Inv-loop settings w base at mail level kept₀ table₀ p₀ n₀ known₀ t20 kept table p n known =
+    HeadAt settings w base at kept₀ table₀ n₀ (Head mail known₀ level) mail known level kept p table n
 
 abbrev μ-loop : tie.MeasureT-loop
-μ-loop w base at mail level kept₀ table₀ p₀ n₀ known₀ t20 kept table p n known = length w - p
+μ-loop settings w base at mail level kept₀ table₀ p₀ n₀ known₀ t20 kept table p n known = length w - p
 
 -- ---- from place to place: behind the blank line's test, behind `note`'s answer `Written(next)`, behind `line`'s answer `To(e)`, the loop, the start
 abbrev blank-next : tie.Then1 Inv-loop μ-loop → tie.After-next Inv-loop μ-loop
@@ -37,7 +38,7 @@ start-of c = c .before .before .before .before
 -- the line from p up to e
 line-to : (c : tie.After-e Inv-loop μ-loop) →
     let loop = loop-of c in
-    Ends aLine (start-of loop .args .w .now) (loop .loop .p) (c .e .given .0 .0)
+    Passes (start-of loop .args .settings) (start-of loop .args .w .now) (loop .loop .p) (c .e .given .0 .0)
 line-to c = rw (c .e .given .1) at (c .before .before .line .ensures)
 
 -- ---- nothing is read yet
@@ -52,15 +53,19 @@ line-requires c κs = c .loop .inv .came .within
 
 -- the copies are as many as they were
 same-length : tie.Need-same-length Inv-loop μ-loop
-same-length c = c .before .before .before .loop .inv .as-many
+same-length c = c .before .before .before .before .before .loop .inv .as-many
 
 -- the table is as long as it was
 same-length-2 : tie.Need-same-length-2 Inv-loop μ-loop
-same-length-2 c = c .before .before .before .loop .inv .long
+same-length-2 c = c .before .before .before .before .before .loop .inv .long
+
+-- or it is refused: it begins before the limit
+halted-requires : tie.Need-halted-requires Inv-loop μ-loop
+halted-requires c κs = omega (arith, c .before .before .before .before .loop .inv .came .within, c .before .before .before .before .before .before .before .before .pre .0)
 
 -- the window is over
 returns : tie.Need-returns Inv-loop μ-loop
-returns c = head-short (c .before .before .before .loop .inv) (rw (c .enum-told .given .1) at (c .before .before .line .ensures))
+returns c = head-halts (c .before .before .before .before .before .loop .inv) (rw (c .before .before .o .given .1) at (c .before .before .before .before .line .ensures)) (c .halted .ensures)
 
 -- ---- a line's event
 add-note : tie.Need-add-note Inv-loop μ-loop
@@ -70,7 +75,7 @@ add-note c =
 
 -- it ends behind p
 sub-note : tie.Need-sub-note Inv-loop μ-loop
-sub-note c = omega (arith, line-to (c .before .before) .on)
+sub-note c = omega (arith, line-to (c .before .before) .ends .on)
 
 -- where it begins and how long it is fit a slot of the table
 note-requires : tie.Need-note-requires Inv-loop μ-loop
@@ -78,7 +83,7 @@ note-requires c κs =
     let line = c .before .before in
     let loop = loop-of line in
     let limited = start-of loop .pre .0 in
-    (omega (arith, loop .loop .inv .came .within, limited), omega (arith, line-to line .within, limited))
+    (omega (arith, loop .loop .inv .came .within, limited), omega (arith, line-to line .ends .within, limited))
 
 -- ---- the table is full
 same-length-3 : tie.Need-same-length-3 Inv-loop μ-loop
@@ -100,17 +105,17 @@ returns-2 c =
 
 -- ---- the part that is compared with CRLF
 sub-equals : tie.Need-sub-equals Inv-loop μ-loop
-sub-equals c = omega (arith, line-to (next-line (c .before)) .on)
+sub-equals c = omega (arith, line-to (next-line (c .before)) .ends .on)
 
 -- it ends in the window
 part-equals-end : tie.Need-part-equals-end Inv-loop μ-loop
-part-equals-end c = line-to (next-line (c .before)) .within
+part-equals-end c = line-to (next-line (c .before)) .ends .within
 
 -- ---- the blank line: what is behind it lies in the session
 add-behind : tie.Need-add-behind Inv-loop μ-loop
 add-behind c =
     let line = next-line (blank-next c) in
-    omega (arith, line-to line .within, start-of (loop-of line) .pre .0)
+    omega (arith, line-to line .ends .within, start-of (loop-of line) .pre .0)
 
 -- and behind where the mail began
 behind-requires : tie.Need-behind-requires Inv-loop μ-loop
@@ -118,7 +123,7 @@ behind-requires c κs =
     let line = next-line (blank-next (c .before .before)) in
     let inv = loop-of line .loop .inv in
     let to = line-to line in
-    (omega (arith, to .within, start-of (loop-of line) .pre .0), inv .deep, inv .slots, begins-later _ (inv .begins) (omega (arith, to .on)))
+    (omega (arith, to .ends .within, start-of (loop-of line) .pre .0), inv .deep, inv .slots, begins-later _ (inv .begins) (omega (arith, to .ends .on)))
 
 -- the copies are as many as they were
 same-length-5 : tie.Need-same-length-5 Inv-loop μ-loop
@@ -147,13 +152,13 @@ learn-requires c κs =
     let line = next-line (other-next (c .before)) in
     let inv = loop-of line .loop .inv in
     let to = line-to line in
-    (omega (arith, to .on), to .within, inv .deep, inv .slots)
+    (omega (arith, to .ends .on), to .ends .within, inv .deep, inv .slots)
 
 -- fewer bytes are left behind it
 loop-less : tie.Need-loop-less Inv-loop μ-loop
 loop-less c =
     let line = line-to (next-line (other-next (c .before .before .before .before))) in
-    omega (arith, line .on, line .within)
+    omega (arith, line .ends .on, line .ends .within)
 
 -- what is heard is known there
 loop-again : tie.Need-loop-again Inv-loop μ-loop
@@ -175,6 +180,7 @@ head-spec =
     loop-holds
     line-requires
     (λ c. search needs)
+    halted-requires
     same-length
     same-length-2
     returns

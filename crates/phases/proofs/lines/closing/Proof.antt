@@ -8,6 +8,7 @@ use Rattle.rules.specs.Phases.{closing, wants}
 use Rattle.windows.specs.Stands.{enter, enters}
 use Rattle.phases.specs.Phasing.{stateOf, Fits}
 use Rattle.phases.specs.declared.Phase.the-variants as is
+use Rattle.rules.specs.Strict.{isBare}
 use Rattle.phases.proofs.Reactions.{closing-crlf, closing-hyphens, closing-other}
 use Rattle.phases.proofs.Turning.{piece-of, waits-whole, leads-still}
 use borrow.Author.Needs.{needs}
@@ -55,22 +56,22 @@ unfolding wants stateOf Fits
 returns c =
     let called = c .before .before in
     let pre = called .before .before .pre in
-    λ k t. waits-whole is.Closing closing refl (rw (c .enum-told .given .1) at (called .two-bytes .ensures)) (pre .1) tt
+    λ set k t. waits-whole is.Closing closing refl (rw (c .enum-told .given .1) at (called .two-bytes .ensures)) (pre .1) tt
 
 -- CRLF: a command follows
 returns-2 : tie.Need-returns-2
-unfolding wants stateOf enter enters Fits
-returns-2 c = let pair = two-crlf c in λ k t. leads-still (piece-of closing (pair .ends) (closing-crlf _ pair)) refl (record { is = refl; fits = tt })
+unfolding wants stateOf enter enters Fits isBare
+returns-2 c = let pair = two-crlf c in λ set k t. leads-still (piece-of closing (pair .ends) refl (closing-crlf _ pair)) refl (record { is = refl; fits = tt })
 
 -- two hyphens: the session is over
 returns-3 : tie.Need-returns-3
-unfolding wants stateOf enter enters Fits
-returns-3 c = let pair = two-hyphens c in λ k t. leads-still (piece-of closing (pair .ends) (closing-hyphens _ pair)) refl (record { is = refl; fits = tt })
+unfolding wants stateOf enter enters Fits isBare
+returns-3 c = let pair = two-hyphens c in λ set k t. leads-still (piece-of closing (pair .ends) refl (closing-hyphens _ pair)) refl (record { is = refl; fits = tt })
 
 -- anything else: so it is, too
 returns-4 : tie.Need-returns-4
-unfolding wants stateOf enter enters Fits
-returns-4 c = let pair = two-others c in λ k t. leads-still (piece-of closing (pair .ends) (closing-other _ pair)) refl (record { is = refl; fits = tt })
+unfolding wants stateOf enter enters Fits isBare
+returns-4 c = let pair = two-others c in λ set k t. leads-still (piece-of closing (pair .ends) refl (closing-other _ pair)) refl (record { is = refl; fits = tt })
 
 pub closing-spec : {M : Type 1} → statement M
 closing-spec =

@@ -14,10 +14,10 @@ use Rattle.phases.proofs.lines.commands.Statement.{statement}
 use Rattle.phases.proofs.lines.commands.Tie as tie
 
 abbrev Inv-loop : tie.InvT-loop
-Inv-loop w base at table₀ p₀ n₀ table p n = Looped w base at table₀ n₀ (fresh (reads command)) p table n
+Inv-loop settings w base at table₀ p₀ n₀ table p n = Looped settings w base at table₀ n₀ (fresh (reads command)) p table n
 
 abbrev μ-loop : tie.MeasureT-loop
-μ-loop w base at table₀ p₀ n₀ table p n = length w - p
+μ-loop settings w base at table₀ p₀ n₀ table p n = length w - p
 
 -- ---- the loop: nothing is read yet
 loop-holds : tie.Need-loop-holds Inv-loop μ-loop
@@ -89,7 +89,7 @@ loop-again c =
     let called = listed .before .before .before .before in
     let line = rw (listed .end .given .1) at (called .note-line .ensures) in
     let other = sym (c .before .append .ensures) ∙ c .if1 .left in
-    lined-on (called .before .before .loop .inv) command-lists line (command-on _ (line .line) other) (called .note-line .kept .1 .1 .1 .1 .1 .0)
+    lined-on (called .before .before .loop .inv) command-lists line (command-on _ (line .line) other) (called .note-line .kept .1 .1 .1 .1 .1 .1 .0)
 
 pub commands-spec : {M : Type 1} → statement M
 commands-spec =

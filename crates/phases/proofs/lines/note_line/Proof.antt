@@ -2,7 +2,8 @@
 use native.Mathlib.Omega.{arith}
 use borrow.Author.Needs.{needs}
 use Rattle.reads.specs.Contracts.{Cleaned}
-use Rattle.phases.proofs.Reactions.{lined-short, lined-full}
+use Rattle.phases.proofs.Reactions.{lined-halts, lined-full}
+use Rattle.phases.specs.Phasing.{CleanPasses}
 use Rattle.phases.proofs.lines.note_line.Statement.{statement}
 use Rattle.phases.proofs.lines.note_line.Tie as tie
 
@@ -12,28 +13,30 @@ start c = c .before .before .before .before .before
 
 line-to : (c : tie.After-end) →
     let a = start c .args in
-    Cleaned (a .w .now) (a .p) (c .end .given .0 .0) (c .end .given .0 .1 .0)
+    CleanPasses (a .settings) (a .w .now) (a .p) (c .end .given .0 .0) (c .end .given .0 .1 .0)
 line-to c = rw (c .end .given .1) at (c .before .before .clean-line .ensures)
 
 -- it begins before the limit
 add-note : tie.Need-add-note
-add-note c = let line = line-to (c .before .before) in omega (arith, line .ends .on, line .ends .within)
+add-note c = let line = line-to (c .before .before) in omega (arith, line .line .ends .on, line .line .ends .within)
 
 -- its clean part ends behind p
 sub-note : tie.Need-sub-note
-sub-note c = line-to (c .before .before) .from
+sub-note c = line-to (c .before .before) .line .from
 
 -- where it begins and how long it is fit a slot of the table
 note-requires : tie.Need-note-requires
 note-requires c κs =
     let line = line-to (c .before .before) in
-    (omega (arith, line .ends .on, line .ends .within), omega (arith, line .within, line .ends .within))
+    (omega (arith, line .line .ends .on, line .line .ends .within), omega (arith, line .line .within, line .line .ends .within))
 
--- ---- no line is finished: the window is over
+-- ---- no line is finished, or it is refused: it begins before the limit
+halted-requires : tie.Need-halted-requires
+halted-requires c κs = omega (arith, c .before .before .before .before .before .before .pre .0, c .before .before .before .before .before .before .pre .1)
+
+-- the window is over
 returns : tie.Need-returns
-returns c =
-    let called = c .before .before in
-    lined-short (rw (c .enum-told .given .1) at (called .clean-line .ensures)) (called .before .before .before .pre .1)
+returns c = lined-halts (rw (c .before .before .o .given .1) at (c .before .before .before .before .clean-line .ensures)) (c .before .before .before .before .before .before .before .pre .1) (c .halted .ensures)
 
 -- the table is full: the session is over
 returns-2 : tie.Need-returns-2
@@ -46,7 +49,8 @@ returns-2 c =
 returns-3 : tie.Need-returns-3
 returns-3 c =
     let noted = c .before .before .before .before .before in
-    record { line = line-to (noted .before .before .before); written = rw (c .before .next .given .1) at (noted .note .ensures) }
+    let line = line-to (noted .before .before .before) in
+    record { line = line .line; passes = line .passes; written = rw (c .before .next .given .1) at (noted .note .ensures) }
 
 pub note-line-spec : {M : Type 1} → statement M
 note-line-spec =
@@ -54,6 +58,7 @@ note-line-spec =
     (tie.spec
     (λ c κs. search needs)
     (λ c. search needs)
+    halted-requires
     (λ c. search needs)
     add-note
     sub-note

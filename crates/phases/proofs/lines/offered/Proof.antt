@@ -36,8 +36,8 @@ part-has-colon-end : tie.Need-part-has-colon-end
 part-has-colon-end c = line-to (c .before) .within
 
 -- ---- a colon: a mail, whose header begins here
-add-t19 : tie.Need-add-t19
-add-t19 c =
+add-t20 : tie.Need-add-t20
+add-t20 c =
     let pre = start (c .before .before .before .before) .pre in
     omega (arith, pre .0, pre .1)
 
@@ -82,7 +82,7 @@ offered-spec =
     sub-has-colon
     part-has-colon-end
     (λ c κs. search needs)
-    add-t19
+    add-t20
     (λ c κs. search needs)
     head-requires
     (λ c. search needs)

@@ -14,10 +14,10 @@ use Rattle.phases.proofs.lines.replies.Statement.{statement}
 use Rattle.phases.proofs.lines.replies.Tie as tie
 
 abbrev Inv-loop : tie.InvT-loop
-Inv-loop w base at table₀ p₀ n₀ t13 table p n = Looped w base at table₀ n₀ (fresh (reads reply)) p table n
+Inv-loop settings w base at table₀ p₀ n₀ t13 table p n = Looped settings w base at table₀ n₀ (fresh (reads reply)) p table n
 
 abbrev μ-loop : tie.MeasureT-loop
-μ-loop w base at table₀ p₀ n₀ t13 table p n = length w - p
+μ-loop settings w base at table₀ p₀ n₀ t13 table p n = length w - p
 
 -- ---- the loop: nothing is read yet
 loop-holds : tie.Need-loop-holds Inv-loop μ-loop
@@ -54,8 +54,8 @@ part-starts-with-end : tie.Need-part-starts-with-end Inv-loop μ-loop
 part-starts-with-end c = let line = line-to (c .before) in omega (arith, line .within, line .ends .within)
 
 -- it begins 221: it ends before the limit
-add-t25 : tie.Need-add-t25 Inv-loop μ-loop
-add-t25 c = let line = line-to (c .before .before .before .before .before) in omega (arith, line .ends .on, line .ends .within)
+add-t26 : tie.Need-add-t26 Inv-loop μ-loop
+add-t26 c = let line = line-to (c .before .before .before .before .before) in omega (arith, line .ends .on, line .ends .within)
 
 -- and the session is over
 returns-2 : tie.Need-returns-2 Inv-loop μ-loop
@@ -78,7 +78,7 @@ loop-again c =
     let called = listed .before .before .before .before in
     let line = rw (listed .end .given .1) at (called .note-line .ensures) in
     let other = sym (c .before .starts-with .ensures) ∙ c .if1 .left in
-    lined-on (called .before .before .loop .inv) reply-lists line (reply-on _ (line .line) other) (called .note-line .kept .1 .1 .1 .1 .1 .0)
+    lined-on (called .before .before .loop .inv) reply-lists line (reply-on _ (line .line) other) (called .note-line .kept .1 .1 .1 .1 .1 .1 .0)
 
 pub replies-spec : {M : Type 1} → statement M
 replies-spec =
@@ -97,7 +97,7 @@ replies-spec =
     part-starts-with-end
     (λ c. search needs)
     (λ c κs. search needs)
-    add-t25
+    add-t26
     (λ c. search needs)
     returns-2
     loop-less

@@ -15,10 +15,10 @@ use Rattle.phases.proofs.lines.statuses.Statement.{statement}
 use Rattle.phases.proofs.lines.statuses.Tie as tie
 
 abbrev Inv-loop : tie.InvT-loop
-Inv-loop w base at table₀ p₀ n₀ table p n = Looped w base at table₀ n₀ (fresh (reads status)) p table n
+Inv-loop settings w base at table₀ p₀ n₀ table p n = Looped settings w base at table₀ n₀ (fresh (reads status)) p table n
 
 abbrev μ-loop : tie.MeasureT-loop
-μ-loop w base at table₀ p₀ n₀ table p n = length w - p
+μ-loop settings w base at table₀ p₀ n₀ table p n = length w - p
 
 -- ---- the loop: nothing is read yet
 loop-holds : tie.Need-loop-holds Inv-loop μ-loop
@@ -55,8 +55,8 @@ part-stls-answer-end : tie.Need-part-stls-answer-end Inv-loop μ-loop
 part-stls-answer-end c = let line = line-to (c .before) in omega (arith, line .within, line .ends .within)
 
 -- a TLS answer: it ends before the limit
-add-t22 : tie.Need-add-t22 Inv-loop μ-loop
-add-t22 c = let line = line-to (c .before .before .before .before) in omega (arith, line .ends .on, line .ends .within)
+add-t23 : tie.Need-add-t23 Inv-loop μ-loop
+add-t23 c = let line = line-to (c .before .before .before .before) in omega (arith, line .ends .on, line .ends .within)
 
 -- and the session is over
 returns-2 : tie.Need-returns-2 Inv-loop μ-loop
@@ -107,7 +107,7 @@ loop-again c =
     let line = rw (listed .end .given .1) at (called .note-line .ensures) in
     let none = sym (no-tls .before .stls-answer .ensures) ∙ no-tls .if1 .left in
     let other = sym (c .before .retr-answer .ensures) ∙ c .if2 .left in
-    lined-on (called .before .before .loop .inv) status-lists line (status-on _ (line .line) none other) (called .note-line .kept .1 .1 .1 .1 .1 .0)
+    lined-on (called .before .before .loop .inv) status-lists line (status-on _ (line .line) none other) (called .note-line .kept .1 .1 .1 .1 .1 .1 .0)
 
 pub statuses-spec : {M : Type 1} → statement M
 statuses-spec =
@@ -125,7 +125,7 @@ statuses-spec =
     part-stls-answer-start
     part-stls-answer-end
     (λ c κs. search needs)
-    add-t22
+    add-t23
     (λ c. search needs)
     returns-2
     sub-retr-answer

@@ -11,6 +11,7 @@ use Rattle.rules.specs.Phases as phase
 use Rattle.rules.specs.Phases.{wants}
 use Rattle.phases.specs.Phasing.{slot, outside, stateOf, Fits}
 use Rattle.phases.specs.declared.Phase.the-variants as is
+use Rattle.rules.specs.Strict.{isBare}
 use Rattle.phases.proofs.Turning.{piece-of, waits-whole, leads-still}
 use Rattle.phases.proofs.Heading.{begins-later}
 use Rattle.phases.proofs.Parting.{between-crlf, between-hyphens, between-other, enters-part, enters-over, enters-behind}
@@ -27,7 +28,7 @@ returns c =
     let m = start .args .mail in
     let i = start .args .level in
     let k = start .args .kept .now in
-    λ t.
+    λ set t.
     waits-whole (is.Between m i) (phase.between m (slot k i) (outside k i)) refl (rw (c .enum-told .given .1) at (called .two-bytes .ensures))
     (pre .1) (pre .2, pre .4)
 
@@ -41,7 +42,7 @@ add-t15 c = omega (arith, read-crlf (c .before) .ends .within)
 
 -- the next part's header
 returns-2 : tie.Need-returns-2
-unfolding stateOf wants
+unfolding stateOf wants isBare
 returns-2 c =
     let start = c .before .before .before .before .before .before in
     let pre = start .pre in
@@ -51,8 +52,8 @@ returns-2 c =
     let at = start .args .base + start .args .p in
     let to = start .args .base + (start .args .p + 2) in
     let d = read-crlf (c .before) in
-    λ t.
-    leads-still (piece-of (phase.between m (slot k i) (outside k i)) (d .ends) (between-crlf m (slot k i) (outside k i) at d)) refl
+    λ set t.
+    leads-still (piece-of (phase.between m (slot k i) (outside k i)) (d .ends) refl (between-crlf m (slot k i) (outside k i) at d)) refl
     (enters-part k m i to (c .unheard .ensures) (pre .2) (begins-later to (pre .4) (omega arith)))
 
 -- ---- two hyphens
@@ -69,7 +70,7 @@ add-t20 c = omega (arith, read-hyphens (c .before) .ends .within)
 
 -- what follows a close
 returns-3 : tie.Need-returns-3
-unfolding stateOf wants
+unfolding stateOf wants isBare
 returns-3 c =
     let start = c .before .before .before .before .before .before in
     let m = start .args .mail in
@@ -78,8 +79,8 @@ returns-3 c =
     let base = start .args .base in
     let p = start .args .p in
     let d = read-hyphens (c .before) in
-    λ t.
-    leads-still (piece-of (phase.between m (slot k i) (outside k i)) (d .ends) (between-hyphens m (slot k i) (outside k i) (base + p) d)) refl
+    λ set t.
+    leads-still (piece-of (phase.between m (slot k i) (outside k i)) (d .ends) refl (between-hyphens m (slot k i) (outside k i) (base + p) d)) refl
     (enters-behind base p 2 k (skip m (slot k i) (outside k i)) (c .closed .result) (c .closed .ensures))
 
 -- ---- other bytes
@@ -92,7 +93,7 @@ add-t25 c = omega (arith, read-other c .ends .within)
 
 -- refusal 6
 returns-4 : tie.Need-returns-4
-unfolding stateOf wants
+unfolding stateOf wants isBare
 returns-4 c =
     let start = c .before .before .before .before .before in
     let m = start .args .mail in
@@ -100,8 +101,8 @@ returns-4 c =
     let k = start .args .kept .now in
     let at = start .args .base + start .args .p in
     let d = read-other c in
-    λ t.
-    leads-still (piece-of (phase.between m (slot k i) (outside k i)) (d .ends) (between-other m (slot k i) (outside k i) at d)) refl
+    λ set t.
+    leads-still (piece-of (phase.between m (slot k i) (outside k i)) (d .ends) refl (between-other m (slot k i) (outside k i) at d)) refl
     (enters-over k BadDelimiter at (start .args .base + (start .args .p + 2)))
 
 pub between-spec : {M : Type 1} → statement M

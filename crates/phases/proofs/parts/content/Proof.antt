@@ -38,7 +38,7 @@ returns c =
     let a = start (called .before .before) .args in
     let pre = start (called .before .before) .pre in
     let d = rw (c .before .q .given .1) at (sought called) in
-    content-waits (a .base) (a .kept .now) (a .mail) (a .level) (a .from) (a .here) (pre .2) (pre .3) (pre .5) (a .encoding) d
+    λ set. content-waits (a .base) (a .kept .now) (a .mail) (a .level) (a .from) (a .here) (pre .2) (pre .3) (pre .5) (a .encoding) d
 
 -- ---- the delimiter
 abbrev length-known : tie.After-known-told2 → tie.After-length-at
@@ -81,6 +81,7 @@ returns-2 c =
     let to = a .base + told .before .e .given .0 .0 in
     let long = called .length-at .ensures ∙ sym (slot-length k (a .level) (pre .4) (omega (arith, pre .2))) in
     let d = found told in
+    λ set.
     rw (c .onward .ensures)
     (leads (content-piece (a .base) k (a .mail) (a .level) (a .from) (a .here) (pre .2) (pre .3) (pre .5) (a .encoding) long d)
     k (a .table .now) (a .log) (held .hold .result) (held .hold .last .0) (is.Between (a .mail) (a .level))

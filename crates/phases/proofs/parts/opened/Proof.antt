@@ -11,6 +11,7 @@ use Rattle.rules.specs.Phases as phase
 use Rattle.rules.specs.Phases.{wants}
 use Rattle.phases.specs.Phasing.{slot, outside, stateOf, Fits}
 use Rattle.phases.specs.declared.Phase.the-variants as is
+use Rattle.rules.specs.Strict.{isBare}
 use Rattle.phases.proofs.Turning.{piece-of, waits-whole, leads-still}
 use Rattle.phases.proofs.Heading.{begins-later}
 use Rattle.phases.proofs.Parting.{opened-crlf, opened-hyphens, opened-other, enters-part, enters-over}
@@ -26,7 +27,7 @@ returns c =
     let pre = start .pre in
     let m = start .args .mail in
     let i = start .args .level in
-    λ k t.
+    λ set k t.
     waits-whole (is.Opened m i) (phase.opened m (slot k i) (outside k i)) refl (rw (c .enum-told .given .1) at (called .two-bytes .ensures))
     (pre .1) (pre .2, pre .3)
 
@@ -40,7 +41,7 @@ add-t14 c = omega (arith, read-crlf (c .before) .ends .within)
 
 -- the first part's header
 returns-2 : tie.Need-returns-2
-unfolding stateOf wants
+unfolding stateOf wants isBare
 returns-2 c =
     let start = c .before .before .before .before .before in
     let pre = start .pre in
@@ -49,8 +50,8 @@ returns-2 c =
     let at = start .args .base + start .args .p in
     let to = start .args .base + (start .args .p + 2) in
     let d = read-crlf (c .before) in
-    λ k t.
-    leads-still (piece-of (phase.opened m (slot k i) (outside k i)) (d .ends) (opened-crlf m (slot k i) (outside k i) at d)) refl
+    λ set k t.
+    leads-still (piece-of (phase.opened m (slot k i) (outside k i)) (d .ends) refl (opened-crlf m (slot k i) (outside k i) at d)) refl
     (enters-part k m i to (c .unheard .ensures) (pre .2) (begins-later to (pre .3) (omega arith)))
 
 -- ---- two hyphens
@@ -63,15 +64,15 @@ add-t19 c = omega (arith, read-hyphens c .ends .within)
 
 -- refusal 6
 returns-3 : tie.Need-returns-3
-unfolding stateOf wants
+unfolding stateOf wants isBare
 returns-3 c =
     let start = c .before .before .before .before in
     let m = start .args .mail in
     let i = start .args .level in
     let at = start .args .base + start .args .p in
     let d = read-hyphens c in
-    λ k t.
-    leads-still (piece-of (phase.opened m (slot k i) (outside k i)) (d .ends) (opened-hyphens m (slot k i) (outside k i) at d)) refl
+    λ set k t.
+    leads-still (piece-of (phase.opened m (slot k i) (outside k i)) (d .ends) refl (opened-hyphens m (slot k i) (outside k i) at d)) refl
     (enters-over k BadDelimiter at (start .args .base + (start .args .p + 2)))
 
 -- ---- other bytes
@@ -84,15 +85,15 @@ add-t24 c = omega (arith, read-other c .ends .within)
 
 -- refusal 6
 returns-4 : tie.Need-returns-4
-unfolding stateOf wants
+unfolding stateOf wants isBare
 returns-4 c =
     let start = c .before .before .before .before in
     let m = start .args .mail in
     let i = start .args .level in
     let at = start .args .base + start .args .p in
     let d = read-other c in
-    λ k t.
-    leads-still (piece-of (phase.opened m (slot k i) (outside k i)) (d .ends) (opened-other m (slot k i) (outside k i) at d)) refl
+    λ set k t.
+    leads-still (piece-of (phase.opened m (slot k i) (outside k i)) (d .ends) refl (opened-other m (slot k i) (outside k i) at d)) refl
     (enters-over k BadDelimiter at (start .args .base + (start .args .p + 2)))
 
 pub opened-spec : {M : Type 1} → statement M

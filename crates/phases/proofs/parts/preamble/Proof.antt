@@ -33,7 +33,7 @@ returns c =
     let a = start (called .before .before) .args in
     let pre = start (called .before .before) .pre in
     let d = rw (c .before .q .given .1) at (sought called) in
-    λ t. preamble-waits (a .base) (a .kept .now) (a .mail) (a .level) (a .from) (a .here) (pre .2) (pre .3) (pre .5) d
+    λ set t. preamble-waits (a .base) (a .kept .now) (a .mail) (a .level) (a .from) (a .here) (pre .2) (pre .3) (pre .5) d
 
 -- the delimiter
 returns-2 : tie.Need-returns-2
@@ -42,7 +42,7 @@ returns-2 c =
     let a = start (called .before .before) .args in
     let pre = start (called .before .before) .pre in
     let d = rw (c .before .e .given .1) at (sought called) in
-    λ t. preamble-found (a .base) (a .kept .now) (a .mail) (a .level) (a .from) (a .here) (pre .2) (pre .3) (pre .5) d
+    λ set t. preamble-found (a .base) (a .kept .now) (a .mail) (a .level) (a .from) (a .here) (pre .2) (pre .3) (pre .5) d
 
 pub preamble-spec : {M : Type 1} → statement M
 preamble-spec =

@@ -8,6 +8,7 @@ use Rattle.rules.specs.Phases as phase
 use Rattle.rules.specs.Phases.{wants}
 use Rattle.phases.specs.Phasing.{slot, outside, stateOf, Fits}
 use Rattle.phases.specs.declared.Phase.the-variants as is
+use Rattle.rules.specs.Strict.{isBare}
 use Rattle.phases.proofs.Turning.{piece-of, waits-whole, leads-still}
 use Rattle.phases.proofs.Heading.{begins-later}
 use Rattle.phases.proofs.Parting.{resting-all, bytes-stop, bytes-end}
@@ -23,7 +24,7 @@ returns c =
     let m = start .args .mail in
     let i = start .args .level in
     let n = start .args .left in
-    λ k t.
+    λ set k t.
     waits-whole (is.Resting m i n) (phase.resting m (slot k i) (outside k i) n) refl (bytes-stop n (pre .1) (c .if1 .taken)) (pre .1) (pre .2, pre .3)
 
 -- they are: they end before the limit
@@ -44,17 +45,17 @@ popped-requires c κs = let pre = c .before .before .pre in (omega (arith, pre .
 
 -- the level is left
 returns-2 : tie.Need-returns-2
-unfolding stateOf wants
+unfolding stateOf wants isBare
 returns-2 c =
     let start = c .before .before .before in
     let a = start .args in
     let n = a .left in
     let room : n < length (a .w .now) - a .p = omega arith in
     let d = bytes-end {w = a .w .now} n (start .pre .1) room in
-    λ k t.
+    λ set k t.
     let b = slot k (a .level) in
     let os = outside k (a .level) in
-    leads-still (piece-of (phase.resting (a .mail) b os n) d (resting-all (a .base) (a .mail) b os n d)) refl (c .popped .ensures k)
+    leads-still (piece-of (phase.resting (a .mail) b os n) d refl (resting-all (a .base) (a .mail) b os n d)) refl (c .popped .ensures k)
 
 pub resting-spec : {M : Type 1} → statement M
 resting-spec =

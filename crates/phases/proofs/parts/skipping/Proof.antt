@@ -11,19 +11,19 @@ use Rattle.reads.specs.Contracts.{Ends, Begins}
 use Rattle.rules.specs.Mail.{skip}
 use Rattle.rules.specs.Phases as phase
 use Rattle.rules.specs.Phases.{wants}
-use Rattle.phases.specs.Phasing.{slot, outside, stateOf, Fits, Piece}
+use Rattle.phases.specs.Phasing.{slot, outside, stateOf, Fits, Piece, Passes}
 use Rattle.phases.specs.declared.Phase.the-variants as is
-use Rattle.phases.proofs.Turning.{Looped, not-yet, looped-still, looped-leaves, looped-goes, piece-of, waits-whole, leads-still}
+use Rattle.phases.proofs.Turning.{Looped, not-yet, looped-still, looped-leaves, piece-of, leads-still, halts, looped-turn}
 use Rattle.phases.proofs.Heading.{begins-later}
 use Rattle.phases.proofs.Parting.{slot-fits, slot-inside, outermost-is, skipping-last, skipping-on, enters-resting, skips-on}
 use Rattle.phases.proofs.parts.skipping.Statement.{statement}
 use Rattle.phases.proofs.parts.skipping.Tie as tie
 
 abbrev Inv-loop : tie.InvT-loop
-Inv-loop w base at mail level kept log n end p₀ p = (t : List ℕ) → Looped w base at t log (stateOf kept (is.Skipping mail level)) p t log
+Inv-loop settings w base at mail level kept log n end p₀ p = (t : List ℕ) → Looped settings w base at t log (stateOf kept (is.Skipping mail level)) p t log
 
 abbrev μ-loop : tie.MeasureT-loop
-μ-loop w base at mail level kept log n end p₀ p = length w - p
+μ-loop settings w base at mail level kept log n end p₀ p = length w - p
 
 abbrev start : tie.At-loop Inv-loop μ-loop → tie.Start Inv-loop μ-loop
 start c = c .before .before .before .before
@@ -40,48 +40,52 @@ add-end c = let pre = c .before .before .before .pre in omega (arith, c .length-
 line-requires : tie.Need-line-requires Inv-loop μ-loop
 line-requires c κs = c .loop .inv [] .came .within
 
--- no line is finished: the window is over
+-- no line is finished, or it is refused: it begins before the limit
+halted-requires : tie.Need-halted-requires Inv-loop μ-loop
+halted-requires c κs = omega (arith, c .before .before .before .before .loop .inv [] .came .within, c .before .before .before .before .before .before .before .before .pre .0)
+
+-- the window is over
 returns : tie.Need-returns Inv-loop μ-loop
 unfolding stateOf Fits wants
 returns c =
-    let called = c .before .before in
-    let loop = called .before in
-    let inv = loop .loop .inv in
-    let pre = start loop .pre in
-    let m = start loop .args .mail in
-    let i = start loop .args .level in
-    let k = start loop .args .kept .now in
+    let inv = c .before .before .before .before .before .loop .inv in
+    let pre = c .before .before .before .before .before .before .before .before .before .pre in
+    let m = c .before .before .before .before .before .before .before .before .before .args .mail in
+    let i = c .before .before .before .before .before .before .before .before .before .args .level in
+    let k = c .before .before .before .before .before .before .before .before .before .args .kept .now in
+    let here = rw (c .before .before .o .given .1) at (c .before .before .before .before .line .ensures) in
     λ t.
-    looped-goes (inv t)
-    (waits-whole (is.Skipping m i) (phase.skipping m (slot k i) (outside k i)) refl (rw (c .enum-told .given .1) at (called .line .ensures))
-    (inv [] .came .within) (pre .2, begins-later _ (pre .4) (omega (arith, inv [] .from))))
+    looped-turn (inv t) k _ (c .halted .result)
+    (rw (c .halted .ensures)
+    (halts _ k t _ (is.Skipping m i) (phase.skipping m (slot k i) (outside k i)) refl refl here (inv [] .came .within)
+    (pre .2, begins-later _ (pre .4) (omega (arith, inv [] .from)))))
 
 -- ---- a line that ends at e
-abbrev loop-of : tie.After-known-told Inv-loop μ-loop → tie.At-loop Inv-loop μ-loop
+abbrev loop-of : tie.After-known-told2 Inv-loop μ-loop → tie.At-loop Inv-loop μ-loop
 loop-of c = c .before .before .before .before
 
-read : (c : tie.After-known-told Inv-loop μ-loop) →
+read : (c : tie.After-known-told2 Inv-loop μ-loop) →
     let loop = loop-of c in
-    Ends aLine (start loop .args .w .now) (loop .loop .p) (c .before .e .given .0 .0)
+    Passes (start loop .args .settings) (start loop .args .w .now) (loop .loop .p) (c .before .e .given .0 .0)
 read c = rw (c .before .e .given .1) at (c .before .before .before .line .ensures)
 
 -- the mail began before its end
-begun : (c : tie.After-known-told Inv-loop μ-loop) →
+begun : (c : tie.After-known-told2 Inv-loop μ-loop) →
     let a = start (loop-of c) .args in
     Begins (a .mail) (a .base + c .before .e .given .0 .0)
-begun c = begins-later _ (start (loop-of c) .pre .4) (omega (arith, loop-of c .loop .inv [] .from, read c .on))
+begun c = begins-later _ (start (loop-of c) .pre .4) (omega (arith, loop-of c .loop .inv [] .from, read c .ends .on))
 
 -- it ends behind p
 sub-last-line : tie.Need-sub-last-line Inv-loop μ-loop
-sub-last-line c = omega (arith, read c .on)
+sub-last-line c = omega (arith, read c .ends .on)
 
 -- so that it is a part of the window
 part-last-line-start : tie.Need-part-last-line-start Inv-loop μ-loop
-part-last-line-start c = omega (arith, read c .on)
+part-last-line-start c = omega (arith, read c .ends .on)
 
 -- and not behind its end
 part-last-line-end : tie.Need-part-last-line-end Inv-loop μ-loop
-part-last-line-end c = read c .within
+part-last-line-end c = read c .ends .within
 
 -- the outermost boundary lies in its slot
 part-last-line-end-2 : tie.Need-part-last-line-end-2 Inv-loop μ-loop
@@ -90,12 +94,12 @@ part-last-line-end-2 c =
     omega (arith, loop .before .length-at .ensures, slot-inside {i = 0} (start loop .pre .3) (omega arith))
 
 -- ---- it is the last
-abbrev told : tie.After-last-line Inv-loop μ-loop → tie.After-known-told Inv-loop μ-loop
+abbrev told : tie.After-last-line Inv-loop μ-loop → tie.After-known-told2 Inv-loop μ-loop
 told c = c .before .before .before
 
 -- it ends before the limit
 add-popped : tie.Need-add-popped Inv-loop μ-loop
-add-popped c = let line = told (c .before) in omega (arith, start (loop-of line) .pre .0, read line .within)
+add-popped c = let line = told (c .before) in omega (arith, start (loop-of line) .pre .0, read line .ends .within)
 
 -- and behind where the mail began
 popped-requires : tie.Need-popped-requires Inv-loop μ-loop
@@ -116,7 +120,7 @@ returns-2 c =
     let q = outermost-is k (a .level) (a .mail) _ (loop .before .length-at .ensures) (sym (called .last-line .ensures) ∙ last .if1 .taken) in
     λ t.
     looped-leaves (loop .loop .inv t)
-    (leads-still (piece-of (phase.skipping (a .mail) b os) d (skipping-last (a .base) (a .mail) b os d q)) refl (c .popped .ensures k))
+    (leads-still (piece-of (phase.skipping (a .mail) b os) (d .ends) (d .passes) (skipping-last (a .base) (a .mail) b os (d .ends) q)) refl (c .popped .ensures k))
 
 -- ---- it is not: what is skipped next
 skipped : (c : tie.After-last-line Inv-loop μ-loop) → c .last-line .result ≡ false →
@@ -124,7 +128,7 @@ skipped : (c : tie.After-last-line Inv-loop μ-loop) → c .last-line .result �
     let a = start loop .args in
     let k = a .kept .now in
     let e = told c .before .e .given .0 .0 in
-    Piece (a .w .now) (a .base) (loop .loop .p) (stateOf k (is.Skipping (a .mail) (a .level))) e
+    Piece (a .settings) (a .w .now) (a .base) (loop .loop .p) (stateOf k (is.Skipping (a .mail) (a .level))) e
     (record { events = []; next = skip (a .mail) (slot k (a .level)) (outside k (a .level)) (a .base + e) })
 unfolding stateOf wants
 skipped c h =
@@ -135,11 +139,11 @@ skipped c h =
     let b = slot k (a .level) in
     let os = outside k (a .level) in
     let q = outermost-is k (a .level) (a .mail) _ (loop .before .length-at .ensures) (sym (c .last-line .ensures) ∙ h) in
-    piece-of (phase.skipping (a .mail) b os) d (skipping-on (a .base) (a .mail) b os d q)
+    piece-of (phase.skipping (a .mail) b os) (d .ends) (d .passes) (skipping-on (a .base) (a .mail) b os (d .ends) q)
 
 -- it ends before the limit
 add-short-rest : tie.Need-add-short-rest Inv-loop μ-loop
-add-short-rest c = let line = told (c .before) in omega (arith, start (loop-of line) .pre .0, read line .within)
+add-short-rest c = let line = told (c .before) in omega (arith, start (loop-of line) .pre .0, read line .ends .within)
 
 -- just the literal's rest
 returns-3 : tie.Need-returns-3 Inv-loop μ-loop
@@ -158,7 +162,7 @@ returns-3 c =
 
 -- fewer bytes are left behind it
 loop-less : tie.Need-loop-less Inv-loop μ-loop
-loop-less c = let line = told (c .before .before .before) in omega (arith, read line .on, read line .within)
+loop-less c = let line = told (c .before .before .before) in omega (arith, read line .ends .on, read line .ends .within)
 
 -- another line
 loop-again : tie.Need-loop-again Inv-loop μ-loop
@@ -185,6 +189,7 @@ skipping-spec =
     (λ c. λ t. not-yet (c .before .before .before .pre .1))
     line-requires
     (λ c. search needs)
+    halted-requires
     returns
     (λ c. search needs)
     sub-last-line
