@@ -2,6 +2,7 @@
 
 use crate::case::{Bytes, Case, write_case};
 use crate::generate::{Generator, Kind, high_bytes};
+use crate::reading;
 use crate::rng::Rng;
 use crate::special;
 use crate::windows::{LONGEST, Session, Shown};
@@ -27,6 +28,8 @@ pub struct Cut {
     pub case: Case,
     /// The new bytes of each window, all bytes of the session together.
     pub lengths: Vec<usize>,
+    /// The session is begun with the strict setting on.
+    pub strict: bool,
     /// The session's limit; the real one but in some cases, and always in files.
     pub limit: usize,
     /// The slots lent with each window, where they change; in files they never do.
@@ -34,12 +37,14 @@ pub struct Cut {
 }
 
 impl Cut {
-    /// Case `number` cut up. Every fourth case, and what was a direction case, is made for windows.
+    /// Case `number` cut up. Every fourth case, and what was a direction case, is made for windows,
+    /// every sixteenth for bare LFs. Half of them are strict.
     pub fn made(generator: &Generator, number: u64) -> Cut {
         let mut rng = Rng::new(generator.seed ^ OWN, number);
         let mut case = generator.case(number);
-        if number % 4 == 3 || case.entry == b'D' {
-            case = special::case(&mut rng);
+        let for_bare = number % 16 == 5;
+        if for_bare || number % 4 == 3 || case.entry == b'D' {
+            case = if for_bare { special::bare(&mut rng) } else { special::case(&mut rng) };
             if matches!(generator.kind, Kind::AnyByte | Kind::WideImap) {
                 high_bytes(&mut rng, &mut case.bytes);
             }
@@ -51,12 +56,80 @@ impl Cut {
             2 if cut.is_small() => cut.tables = some_tables(&mut rng, cut.lengths.len()),
             _ => {}
         }
+        cut.strict = rng.chance(50);
+        if cut.strict && !for_bare {
+            cut.mend(&mut rng);
+        }
         cut
     }
 
-    /// With the real limit and one table, as a file has it.
+    /// With the real limit and one table, not strict.
     pub fn plain(case: Case, lengths: Vec<usize>) -> Cut {
-        Cut { case, lengths, limit: LONGEST, tables: Vec::new() }
+        Cut {
+            case,
+            lengths,
+            strict: false,
+            limit: LONGEST,
+            tables: Vec::new(),
+        }
+    }
+
+    /// As a file has it: with the real limit and one table.
+    pub fn filed(&self) -> Cut {
+        Cut { limit: LONGEST, tables: Vec::new(), ..self.clone() }
+    }
+
+    /// Puts a CR before each bare LF that refuses, or up to one that stays, so that strict sessions
+    /// go on. Of those without one, half get one anywhere.
+    fn mend(&mut self, rng: &mut Rng) {
+        while let Some(feed) = self.refused_feed() {
+            if rng.chance(15) {
+                return;
+            }
+            self.insert(feed, b'\r');
+        }
+        if rng.chance(50) {
+            self.strip_one(rng);
+        }
+    }
+
+    /// The LF of the line that one call refuses with 11.
+    fn refused_feed(&self) -> Option<usize> {
+        let bytes = &self.case.bytes;
+        let (listing, _) = reading::as_by_windows(self.case.entry, bytes, bytes.len(), true);
+        let place = listing.place as usize;
+        let feed = bytes[place..].iter().position(|&b| b == b'\n').filter(|_| listing.result == 11);
+        feed.map(|feed| place + feed)
+    }
+
+    /// Makes one CRLF a bare LF: without its CR, with another byte in its place, or with one behind it.
+    fn strip_one(&mut self, rng: &mut Rng) {
+        let bytes = &self.case.bytes;
+        let feeds: Vec<usize> = (1..bytes.len()).filter(|&at| bytes[at - 1..].starts_with(b"\r\n")).collect();
+        if feeds.is_empty() {
+            return;
+        }
+        let feed = feeds[rng.below(feeds.len())];
+        match rng.below(4) {
+            0 => self.case.bytes[feed - 1] = b'x',
+            1 => self.insert(feed, b'x'),
+            _ => {
+                let window = self.window_of(feed - 1);
+                self.case.bytes.remove(feed - 1);
+                self.lengths[window] -= 1;
+            }
+        }
+    }
+
+    /// The byte stands in the window that the one behind it stands in.
+    fn insert(&mut self, at: usize, byte: u8) {
+        let window = self.window_of(at);
+        self.case.bytes.insert(at, byte);
+        self.lengths[window] += 1;
+    }
+
+    fn window_of(&self, at: usize) -> usize {
+        self.ends().position(|end| at < end).expect("a byte of the session")
     }
 
     pub fn is_plain(&self) -> bool {
@@ -94,7 +167,7 @@ impl Cut {
     pub fn show(&self, bend: Bend, mut seen: impl FnMut(usize, Shown, &[u32])) -> Vec<u32> {
         let most = (0..self.lengths.len()).map(|window| self.lent(window)).max().unwrap_or(0);
         let mut table = vec![UNTOUCHED; most];
-        let mut session = Session::begin(self.case.entry, self.limit, bend);
+        let mut session = Session::begin(self.case.entry, self.limit, self.strict, bend);
         let mut from = 0;
         let mut ended = false;
         for (number, end) in self.ends().enumerate() {
@@ -194,14 +267,17 @@ fn long(entry: u8, front: &[u8], filler: &[u8], lengths: &[usize]) -> Cut {
     Cut::plain(Case { entry, slots: 8, bytes }, lengths.to_vec())
 }
 
-/// Sessions around the limit: met exactly and passed by a line never finished, passed at once, met
-/// by a sized body, by lines, and passed behind done and behind a refusal.
+/// Sessions around the limit: met exactly and passed by a line never finished, passed at once (strict,
+/// with a bare line), met by a sized body, by lines, and passed behind done and behind a refusal.
 pub fn around_limit() -> Vec<Cut> {
     let quarter = LONGEST / 4;
     let literal = b"a APPEND {20000000}\r\nT: u\r\n\r\n";
     vec![
         long(b's', b"a\n", b"x", &[2, LONGEST - 2, 0, 1, 0]),
-        long(b's', b"a\n", b"x", &[LONGEST + 1]),
+        Cut {
+            strict: true,
+            ..long(b's', b"a\r\nb\n", b"x", &[LONGEST + 1])
+        },
         long(b'I', literal, b"x", &[10, 19, 8_000_000, LONGEST - 8_000_029, 1, 0]),
         long(b'S', b"HELO\nxxxxxxxxxx\n", b"fifteen bytes..\n", &[quarter, quarter, quarter, quarter, 0, 1, 1]),
         long(b's', b"221 bye\n", b"x", &[8, LONGEST, 5]),
@@ -211,15 +287,21 @@ pub fn around_limit() -> Vec<Cut> {
 
 pub fn write(out: &mut Vec<u8>, cut: &Cut) {
     write_case(out, &cut.case);
+    out.extend(u32::from(cut.strict).to_le_bytes());
     out.extend((cut.lengths.len() as u32).to_le_bytes());
     cut.lengths.iter().for_each(|length| out.extend((*length as u32).to_le_bytes()));
 }
 
 pub fn read(from: &mut Bytes) -> Option<Cut> {
     let case = from.case().filter(|case| case.entry != b'D')?;
+    let strict = match from.number()? {
+        0 => false,
+        1 => true,
+        _ => return None,
+    };
     let count = from.number()?;
     let lengths: Option<Vec<usize>> = (0..count).map(|_| from.number().map(|length| length as usize)).collect();
-    let cut = Cut::plain(case, lengths?);
+    let cut = Cut { strict, ..Cut::plain(case, lengths?) };
     let whole = cut.lengths.iter().sum::<usize>() == cut.case.bytes.len();
     whole.then_some(cut)
 }

@@ -27,6 +27,7 @@ mod sharp_windows;
 mod special;
 mod stored;
 mod stream;
+mod strict_selftest;
 mod trace;
 mod utf8;
 mod wide;
@@ -35,6 +36,7 @@ mod windows_compare;
 mod windows_forgets;
 mod windows_mail;
 mod windows_selftest;
+mod windows_strict;
 mod wrong;
 mod wrong_windows;
 
@@ -54,6 +56,8 @@ const USAGE: &str = "usage:
   oracle batch --windows FILE                                      each window's answer of a file of cut sessions
   oracle bench ENTRY FILE [--plain]                                times one large session
   oracle race LIBRARY [WORD]                                       the proved library's speed beside the Rust's; of inputs whose name holds the word
+  oracle race --strict LIBRARY                                     its time by windows with the strict setting off and on, by turns
+  oracle race --beside OLD LIBRARY                                 its time by windows beside an older library's, the setting off, by turns
   oracle generate CASES OUT                                        a batch file of made cases
   oracle judged FILE OUT                                           the cases of a batch file that the Rust can be asked
   oracle generate --cuts CASES OUT                                 a file of made sessions cut into windows
@@ -61,16 +65,17 @@ const USAGE: &str = "usage:
   oracle compare CASES                                             the oracle against the second reading
   oracle compare FILE                                              the same over a batch file
   oracle windows CASES                                             cut sessions by windows against one call
-  oracle sharp [--windows] CASES                                   wrong readings told by the cases; of document 02's W2
+  oracle sharp [--windows] CASES                                   wrong readings told by the cases; of document 02's W2 and W6
   oracle choose CASES OUT                                          a small batch file that meets much
   oracle answers FILE OUT                                          a batch file with the oracle's answers
   oracle check FILE                                                replays a file with answers
   oracle show FILE                                                 a file with answers as text
-  oracle selftest                                                  document 01's examples, the findings, docs/DIFFERENCES.md, and W2 by hand
+  oracle selftest                                                  document 01's examples, the findings, docs/DIFFERENCES.md, W2 and W6 by hand
 CASES: [--seed N] [--count N] [--first N, for generate, compare and windows] [--any-byte | --imap | --short]";
 
-const FLAGS: [&str; 10] = [
-    "--plain", "--no-overlays", "--any-length", "--any-byte", "--imap", "--short", "--second", "--windows", "--cuts", "--limit",
+const FLAGS: [&str; 12] = [
+    "--plain", "--no-overlays", "--any-length", "--any-byte", "--imap", "--short", "--second", "--windows", "--cuts",
+    "--limit", "--strict", "--beside",
 ];
 
 /// The words of the command line: flags, flags with a number, and the rest.
@@ -129,6 +134,8 @@ fn run(words: &Words) -> Result<bool, String> {
         ["batch", file] if words.has("--windows") => list::batch_windows(file),
         ["batch", file] => list::batch(file, words.has("--second")),
         ["bench", entry, file] => list::bench(entry, file, words.has("--plain")),
+        ["race", library] if words.has("--strict") => race::run_strict(library),
+        ["race", old, library] if words.has("--beside") => race::run_beside(old, library),
         ["race", library] => race::run(library, ""),
         ["race", library, word] => race::run(library, word),
         ["generate", out] if words.has("--limit") => stored::generate_long(out),

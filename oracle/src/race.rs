@@ -9,14 +9,21 @@ use crate::wrong::Wrong;
 use std::mem::take;
 use std::time::{Duration, Instant};
 
+/// A library, and whether its sessions by windows are strict.
+#[derive(Clone, Copy)]
+struct Way<'a> {
+    library: &'a Library,
+    strict: bool,
+}
+
 /// The last answer by windows over one buffer, each with so many bytes more. Where they grow and nothing was taken, the next one is twice as long.
-fn windows(library: &Library, input: &Input, size: usize, grow: bool, table: &mut [u32]) -> [u64; 3] {
+fn windows(way: Way, input: &Input, size: usize, grow: bool, table: &mut [u32]) -> [u64; 3] {
     let bytes = &input.bytes[..];
-    let mut session = library.begin(input.entry);
+    let mut session = way.library.begin(input.entry, way.strict);
     let (mut from, mut to, mut due) = (0, 0, 0);
     loop {
         to = bytes.len().min(due.max(to + size));
-        let [result, place, count, taken] = library.show(&mut session, &bytes[from..to], table);
+        let [result, place, count, taken] = way.library.show(&mut session, &bytes[from..to], table);
         if result != INCOMPLETE || to == bytes.len() {
             return [result, place, count];
         }
@@ -116,8 +123,8 @@ impl<'a> Raced<'a> {
 
     /// By windows, with the same listing; nothing where it is refused.
     fn windows(&mut self, size: usize, grow: bool) -> Result<Option<Timed>, String> {
-        let (library, input) = (self.library, self.input);
-        let timed = Timed::table(&mut self.table, |table| windows(library, input, size, grow, table));
+        let (way, input) = (Way { library: self.library, strict: false }, self.input);
+        let timed = Timed::table(&mut self.table, |table| windows(way, input, size, grow, table));
         match input.windows {
             Windows::Refused if timed.answer[0] == LONG_BOUNDARY => Ok(None),
             Windows::Same | Windows::Growing if timed.lists_as(&self.call) => Ok(Some(timed)),
@@ -199,4 +206,50 @@ pub fn run(path: &str, word: &str) -> Result<bool, String> {
         );
     }
     Ok(true)
+}
+
+/// The first input by windows of 64 KiB in two ways by turns, over ten seconds: the fastest run of each, and the second beside the first.
+fn by_turns(names: [&str; 2], ways: [Way; 2]) -> Result<bool, String> {
+    let all = inputs(16 * MB);
+    let input = &all[0];
+    let mut table = vec![0; 4 * input.bytes.len()];
+    let listings = ways.map(|way| {
+        table.fill(0);
+        let answer = windows(way, input, LARGE, false, &mut table);
+        (answer, table[..4 * answer[2] as usize].to_vec())
+    });
+    if listings[0] != listings[1] {
+        return Err(format!("{}: {} and {}, the listings differ", input.name, names[0], names[1]));
+    }
+    let mut best = [Duration::MAX; 2];
+    let mut runs = 0;
+    let begun = Instant::now();
+    while begun.elapsed() < Duration::from_secs(10) {
+        for (way, best) in ways.iter().zip(&mut best) {
+            let start = Instant::now();
+            windows(*way, input, LARGE, false, &mut table);
+            *best = start.elapsed().min(*best);
+        }
+        runs += 1;
+    }
+    let [first, second] = best.map(|time| time.as_secs_f64() * 1e3);
+    println!("| {}, windows of 64 KiB, best of {runs}, ms | {} | {} | ratio |", input.name, names[0], names[1]);
+    println!(
+        "|---|---|---|---|\n| {} bytes | {first:.3} | {second:.3} | {:.3} |",
+        input.bytes.len(),
+        second / first
+    );
+    Ok(true)
+}
+
+/// The strict setting off and on.
+pub fn run_strict(path: &str) -> Result<bool, String> {
+    let library = &Library::open(path)?;
+    by_turns(["off", "strict"], [false, true].map(|strict| Way { library, strict }))
+}
+
+/// An older library and this one, the setting off.
+pub fn run_beside(old: &str, path: &str) -> Result<bool, String> {
+    let libraries = [Library::open(old)?, Library::open(path)?];
+    by_turns(["before", "now"], libraries.each_ref().map(|library| Way { library, strict: false }))
 }

@@ -22,6 +22,8 @@ const ENTRIES: [(u8, &str); 4] =
 pub const INCOMPLETE: u64 = 1;
 pub const LONG_BOUNDARY: u64 = 12;
 const CHOICES: usize = 8;
+const ENTRY: usize = 0;
+const STRICT: usize = 1;
 const SESSION_NUMBERS: usize = 24;
 const SESSION_BOUNDARIES: usize = 648;
 
@@ -76,9 +78,10 @@ impl Library {
         answer
     }
 
-    pub fn begin(&self, entry: u8) -> Session {
+    pub fn begin(&self, entry: u8, strict: bool) -> Session {
         let mut choices = [0; CHOICES];
-        choices[0] = number_of(entry) as u64;
+        choices[ENTRY] = number_of(entry) as u64;
+        choices[STRICT] = u64::from(strict);
         let mut session = Session {
             numbers: [0; SESSION_NUMBERS],
             boundaries: [0; SESSION_BOUNDARIES],

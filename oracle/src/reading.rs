@@ -29,15 +29,29 @@ pub enum Waits {
     Other,
 }
 
-pub fn session(entry: u8, bytes: &[u8], slots: usize, wrong: Wrong) -> Listing {
-    waiting_session(entry, bytes, slots, wrong).0
+/// What document 02 lays over document 01 for sessions by windows.
+#[derive(Clone, Copy, Default)]
+struct Laid {
+    /// W2: a boundary over 70 bytes refuses with 12.
+    long: bool,
+    /// W6: a line that ends in a bare LF refuses with 11.
+    bare: bool,
 }
 
-pub fn waiting_session(entry: u8, bytes: &[u8], slots: usize, wrong: Wrong) -> (Listing, Waits) {
+pub fn session(entry: u8, bytes: &[u8], slots: usize, wrong: Wrong) -> Listing {
+    read(entry, bytes, slots, wrong, Laid::default()).0
+}
+
+/// One call as a session by windows has it, with or without the strict setting.
+pub fn as_by_windows(entry: u8, bytes: &[u8], slots: usize, strict: bool) -> (Listing, Waits) {
+    read(entry, bytes, slots, Wrong::Nothing, Laid { long: true, bare: strict })
+}
+
+fn read(entry: u8, bytes: &[u8], slots: usize, wrong: Wrong, laid: Laid) -> (Listing, Waits) {
     if bytes.len() > LONGEST {
         return (Listing { result: 2, ..Listing::default() }, Waits::Other);
     }
-    let mut reader = Reader::new(entry, bytes, slots, wrong);
+    let mut reader = Reader::new(entry, bytes, slots, wrong, laid);
     let ended = match entry {
         b'S' => reader.smtp_client(),
         b's' => reader.smtp_server(),
@@ -65,6 +79,7 @@ struct Reader<'a> {
     bytes: &'a [u8],
     slots: usize,
     wrong: Wrong,
+    laid: Laid,
     at: usize,
     events: Vec<Event>,
     /// The literal's size, where the mail's header began, the mail's own boundary.
@@ -82,12 +97,13 @@ struct Reader<'a> {
 }
 
 impl<'a> Reader<'a> {
-    fn new(entry: u8, bytes: &'a [u8], slots: usize, wrong: Wrong) -> Self {
+    fn new(entry: u8, bytes: &'a [u8], slots: usize, wrong: Wrong, laid: Laid) -> Self {
         Reader {
             entry,
             bytes,
             slots,
             wrong,
+            laid,
             at: 0,
             events: Vec::new(),
             size: 0,
@@ -135,6 +151,7 @@ impl<'a> Reader<'a> {
     fn peek(&self) -> Step<&'a [u8]> {
         let rest = &self.bytes[self.at..];
         match rest.iter().position(|&b| b == b'\n') {
+            Some(feed) if self.laid.bare && !rest[..feed].ends_with(b"\r") => Err((11, self.at)),
             Some(feed) => Ok(&rest[..feed + 1]),
             None if self.is(Wrong::LastLine) && !rest.is_empty() => Ok(rest),
             None => self.short(),
@@ -553,7 +570,7 @@ impl<'a> Reader<'a> {
             return Err((9, if self.is(Wrong::NinePlace) { self.at - 2 } else { self.at }));
         }
         let boundary = open[open.len() - 1];
-        if boundary.len() > 70 && self.is(Wrong::LongRefuses) {
+        if boundary.len() > 70 && self.laid.long {
             return Err((12, self.at));
         }
         let outer = open[open.len().saturating_sub(2)];

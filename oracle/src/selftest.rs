@@ -1,15 +1,18 @@
 //! Document 01's "Sessions to check", W4's numbers, W1's encodings, W8's white space, and the findings of docs/DIFFERENCES.md,
-//! as cases with answers; W2's sessions by windows stand beside.
+//! as cases with answers; W2's and W6's sessions by windows stand beside.
 
 use crate::case::{Answer, Case, ENOUGH, Sides, readable};
+use crate::cut::Cut;
 use crate::differences;
 use crate::judge::{NO_TEXT, PlainJudge, SwiftJudge};
+use crate::list::write_windows;
 use crate::packet::{Packet, Plain, Swift};
 use crate::reading;
 use crate::utf8;
 use crate::windows_selftest;
 use crate::wrong::Wrong;
 use memchr::memmem::Finder;
+use std::fmt::Display;
 
 const FIRST: &str = "EHLO a\r\nMAIL FROM: <b@c>\r\nRCPT TO: <d@e>\r\nDATA\r\nTo: d\r\n\r\nhi\r\n.\r\n";
 const FIRST_EVENTS: &str = "11 20 3 0\n12 36 3 0\n1 48 7 0\n1 55 2 0\n2 57 0 0\n3 57 4 0\n";
@@ -297,7 +300,7 @@ struct Judges {
 }
 
 impl Judges {
-    fn expect(&mut self, what: &str, case: &Case, found: &Answer, wanted: &str) {
+    fn expect(&mut self, what: &str, case: &Case, found: &impl Display, wanted: &str) {
         self.run += 1;
         let found = found.to_string();
         if found != wanted {
@@ -330,6 +333,19 @@ impl Judges {
         for (what, answer, wanted) in &answers {
             self.expect(what, case, answer, wanted);
         }
+    }
+
+    /// With the strict setting on: one call as by windows, and one window.
+    fn ask_strict(&mut self, case: &Case, document: &str) {
+        let (listing, _) = reading::as_by_windows(case.entry, &case.bytes, case.slots(), true);
+        self.expect("second reading, strict", case, &Answer::Session(listing), document);
+        let mut cut = Cut::plain(case.clone(), vec![case.bytes.len()]);
+        cut.strict = true;
+        let mut shown = Vec::new();
+        write_windows(&mut shown, &cut).expect("memory can be written");
+        let shown = String::from_utf8_lossy(&shown);
+        let listed = shown.split_once('\n').map_or("", |(_, listed)| listed);
+        self.expect("one window, strict", case, &listed, document);
     }
 
     fn ask_around_limit(&mut self) {
@@ -377,7 +393,11 @@ pub fn run() -> bool {
     });
     for example in &examples {
         let failed = judges.failed;
-        judges.ask_both(&example.case, &example.listing);
+        if example.strict {
+            judges.ask_strict(&example.case, &example.listing);
+        } else {
+            judges.ask_both(&example.case, &example.listing);
+        }
         if judges.failed > failed {
             println!("(docs/DIFFERENCES.md, line {})", example.line);
         }

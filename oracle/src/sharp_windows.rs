@@ -1,4 +1,4 @@
-//! How sharp the cut cases are: each wrong reading of W2 against the right one and against one call.
+//! How sharp the cut cases are: each wrong reading of W2 and W6 against the right one and against one call.
 
 use crate::cut::{Cut, around_limit};
 use crate::generate::Generator;
@@ -44,7 +44,7 @@ struct Straight<'a> {
 
 impl<'a> Straight<'a> {
     fn new(cut: &'a Cut, rust: Option<&SwiftJudge>) -> Straight<'a> {
-        let filed = Cut::plain(cut.case.clone(), cut.lengths.clone());
+        let filed = cut.filed();
         Straight {
             cut,
             checker: Checker::new(cut, rust).ok(),
@@ -75,7 +75,7 @@ impl<'a> Straight<'a> {
 
 /// Prints the table; tells whether every wrong reading was told and the right one never.
 pub fn run(generator: Generator, count: u64) -> bool {
-    println!("# Sharpness: wrong readings of document 02's W2 told by cut cases\n");
+    println!("# Sharpness: wrong readings of document 02's W2 and W6 told by cut cases\n");
     println!(
         "Printed by `oracle sharp --windows --seed {} --count {count}`. Case numbers count from 0. Told in a",
         generator.seed

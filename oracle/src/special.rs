@@ -1,5 +1,5 @@
 //! Sessions made for windows: boundaries around 70 bytes, near delimiters, bare LFs, levels,
-//! literals and their rests.
+//! literals and their rests; and for the strict setting.
 
 use crate::case::{Case, ENOUGH};
 use crate::rng::Rng;
@@ -16,6 +16,76 @@ pub fn case(rng: &mut Rng) -> Case {
     let few = rng.chance(10);
     let slots = if few { rng.below(24) as u32 } else { ENOUGH };
     Case { entry, slots, bytes }
+}
+
+/// Sessions whose lines end in CRLF: what refuses or ends a session, what is listed, what is no line,
+/// and mails with another envelope or answer behind a dot line.
+const LINES: [(u8, &[&str]); 16] = [
+    (b'S', &["NOOP", "EHLO a"]),
+    (b'S', &["EHLO a", "STARTTLS", "x"]),
+    (b'S', &["EHLO a", "MAIL FROM: <b@c>", "RCPT TO: <d@e>", "RSET", "DATA"]),
+    (b'S', &["EHLO a", "AUTH LOGIN", "dXNlcg==", "cGFzcw==", "MAIL FROM: <b@c>", "RCPT TO:<d@e>"]),
+    (b'S', &["HELO b", "NOOP", "NOOP", "MAIL FROM: <b@c>", "data", "To: d", "", "hi", "..", "."]),
+    (
+        b'S',
+        &[
+            "EHLO a", "MAIL FROM: <b@c>", "RCPT TO: <d@e>", "DATA", "To: d", "", "hi", ".", "MAIL FROM: <x@y>",
+            "RCPT TO: <d@e>", "DATA", "To: d", "", "forged", ".",
+        ],
+    ),
+    (
+        b'S',
+        &[
+            "EHLO a", "MAIL FROM: <b@c>", "DATA", "Content-Type: m; boundary=q", "", "before", "--q", "To: d", "",
+            "in", "--q--", "behind", ".", "QUIT",
+        ],
+    ),
+    (b's', &["221 bye"]),
+    (b's', &["220 a", "250 b", "221 bye", "250 c"]),
+    (b'P', &["+OK begin TLS", "x"]),
+    (b'P', &["+OK ready", "+OK 1 octets", "To: d", "", "hi", ".", "+OK tls", "x"]),
+    (b'P', &["+OK 1 octets", "To: d", "", "hi", ".", "+OK 2 octets", "To: x", "", "forged", ".", "+OK"]),
+    (b'I', &["a APPEND x {9}", "no mail", "a NOOP"]),
+    (b'I', &["a APPEND x {9}", "To: d", "", "", "a NOOP"]),
+    (b'I', &["a NOOP", "a APPEND x {17}", "To: d", "", "hi", "me", "", "a LOGOUT"]),
+    (
+        b'I',
+        &[
+            "a APPEND x {0}", "Content-Type: m; boundary=q", "", "before", "--q", "To: d", "", "in", "--q--", "behind",
+            "--q--", "", "a NOOP",
+        ],
+    ),
+];
+
+/// One of these with a bare LF at one line, at two together or at none.
+pub fn bare(rng: &mut Rng) -> Case {
+    if rng.chance(10) {
+        return behind_rest(rng);
+    }
+    let (entry, lines) = LINES[rng.below(LINES.len())];
+    let first = rng.below(lines.len() + 1);
+    let last = first + usize::from(rng.chance(20));
+    let mut bytes = Vec::new();
+    for (at, line) in lines.iter().enumerate() {
+        let end = if (first..=last).contains(&at) {
+            rng.pick_odd(30, &["\n"], &["x\n", "\rx\n"])
+        } else {
+            rng.pick_odd(4, &["\r\n"], &["\r\r\n"])
+        };
+        bytes.extend(line.bytes().chain(end.bytes()));
+    }
+    let few = rng.chance(30);
+    let slots = if few { rng.below(10) as u32 } else { ENOUGH };
+    Case { entry, slots, bytes }
+}
+
+/// Behind an inner close the literal's rest, which may end in CR, and a line.
+fn behind_rest(rng: &mut Rng) -> Case {
+    let rest = rng.pick(&["\r", "x\r", "\n", "x\n", "\r\n", "xy"]);
+    let line = rng.pick(&["\n", "\n", "\r\n", "T: u\n", "T: u\r\n"]);
+    let outer = "Content-Type: boundary=qqqq\r\n\r\n--qqqq\r\n";
+    let mail = format!("{outer}Content-Type: boundary=b\r\n\r\n--b\r\n\r\n--b--{rest}");
+    Case::session(b'I', format!("a APPEND {{{}}}\r\n{mail}{line}", mail.len()).as_bytes())
 }
 
 struct Maker<'a> {

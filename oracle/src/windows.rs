@@ -1,10 +1,11 @@
-//! Document 02's W2 by its words: a session shown by windows, on bytes, plain and slow. Between two
-//! windows only what `Session` holds is known. `Bend::Nothing` reads it right; any other value bends
-//! one rule.
+//! Document 02's W2 and W6 by their words: a session shown by windows, on bytes, plain and slow.
+//! Between two windows only what `Session` holds is known. `Bend::Nothing` reads it right; any other
+//! value bends one rule.
 
 use crate::fields;
 use crate::windows_forgets::Past;
 use crate::windows_mail::Head;
+use crate::windows_strict::Late;
 use crate::wrong::Wrong::Nothing;
 use crate::wrong_windows::Bend;
 
@@ -58,6 +59,8 @@ pub enum Phase {
 pub struct Session {
     pub(crate) entry: u8,
     limit: usize,
+    /// Lines that end in a bare LF refuse.
+    pub(crate) strict: bool,
     pub(crate) bend: Bend,
     pub(crate) taken: usize,
     pub(crate) count: usize,
@@ -74,16 +77,22 @@ pub struct Session {
 }
 
 impl Session {
-    pub fn begin(entry: u8, limit: usize, bend: Bend) -> Session {
+    pub fn begin(entry: u8, limit: usize, strict: bool, bend: Bend) -> Session {
         let phase = match entry {
             b'S' => Phase::Hello,
             b's' => Phase::Reply,
             b'P' => Phase::Status,
             _ => Phase::Command,
         };
+        let strict = match bend {
+            Bend::StrictAlways => true,
+            Bend::StrictNever => false,
+            _ => strict,
+        };
         Session {
             entry,
             limit,
+            strict,
             bend,
             taken: 0,
             count: 0,
@@ -106,7 +115,7 @@ impl Session {
         Session {
             taken: self.taken,
             count: self.count,
-            ..Session::begin(self.entry, self.limit, self.bend)
+            ..Session::begin(self.entry, self.limit, self.strict, self.bend)
         }
     }
 
@@ -120,15 +129,15 @@ impl Session {
                 self.repeated(answer, window)
             };
         }
-        if over && !self.is(Bend::LimitLate) {
+        if over && !self.is(Bend::LimitLate) && !self.eleven_first(window, table) {
             return self.beyond();
         }
         self.forget(window, table);
         let before = matches!(self.bend, Bend::RefusalOpen | Bend::TenAgain).then(|| self.clone());
-        let mut walk = Walk { session: self, window, pos: 0, table };
+        let mut walk = Walk { session: self, window, pos: 0, table, late: None };
         let stop = walk.run();
         let pos = walk.pos;
-        if over {
+        if over && self.is(Bend::LimitLate) {
             return self.beyond();
         }
         let shown = self.settled(stop, pos, window);
@@ -162,6 +171,12 @@ impl Session {
         answer
     }
 
+    /// A bent reading looks for 11 in a window past the limit.
+    fn eleven_first(&self, window: &[u8], table: &[u32]) -> bool {
+        let unlimited = || Session { limit: usize::MAX, ..self.clone() };
+        self.is(Bend::ElevenFirst) && unlimited().show(window, &mut table.to_vec()).result == 11
+    }
+
     fn repeated(&self, answer: Shown, window: &[u8]) -> Shown {
         let again = Shown { taken: 0, ..answer };
         match self.bend {
@@ -181,7 +196,7 @@ impl Session {
             (0, Bend::DoneNothing) => 0,
             (0, _) => to_place,
             (1, _) => pos,
-            (_, Bend::RefusalTakesPlace) => to_place,
+            (_, Bend::RefusalTakesPlace) | (11, Bend::ElevenTakes) => to_place,
             (_, Bend::RefusalTakesAll) => window.len(),
             _ => 0,
         };
@@ -200,6 +215,7 @@ impl Session {
     /// Bends undo an end here.
     fn remember(&mut self, before: Option<Session>, shown: Shown, window: &[u8]) {
         self.past.again = (window.len() as u64).saturating_sub(u64::from(shown.taken));
+        self.past.last = window[..shown.taken as usize].last().copied().or(self.past.last);
         let undone = shown.result == 10 || (shown.result > 1 && self.is(Bend::RefusalOpen));
         if let Some(before) = before.filter(|_| undone) {
             *self = before;
@@ -221,7 +237,9 @@ pub struct Walk<'a> {
     pub(crate) window: &'a [u8],
     /// How much of the window is read.
     pub(crate) pos: usize,
-    table: &'a mut [u32],
+    pub(crate) table: &'a mut [u32],
+    /// Only bent readings put something before 11.
+    pub(crate) late: Option<Late>,
 }
 
 impl<'a> Walk<'a> {
@@ -231,7 +249,8 @@ impl<'a> Walk<'a> {
             return (10, self.at());
         }
         let stop = loop {
-            if let Err(stop) = self.step() {
+            let went = self.step();
+            if let Err(stop) = self.overdue(went) {
                 break stop;
             }
         };
@@ -317,7 +336,8 @@ impl<'a> Walk<'a> {
         self.session.rest = rest.and_then(|rest| rest.checked_sub(size as u64));
     }
 
-    fn peek(&self) -> Step<&'a [u8]> {
+    /// The next line, whatever it ends in.
+    pub(crate) fn next_line(&self) -> Step<&'a [u8]> {
         let left = self.left();
         let feed = left.iter().position(|&b| b == b'\n');
         feed.map_or_else(|| self.short(), |feed| Ok(&left[..feed + 1]))
@@ -349,6 +369,7 @@ impl<'a> Walk<'a> {
             }
             _ => return Err((1, from)),
         };
+        self.spared(&two)?;
         self.session.past.held = None;
         self.advance(size);
         Ok((two, from))
@@ -447,10 +468,12 @@ impl<'a> Walk<'a> {
 
     fn offered(&mut self, size: u64) -> Step<()> {
         let next = self.peek();
-        if next.is_err() && self.is(Bend::PeekTaken) {
+        if matches!(next, Err((1, _))) && self.is(Bend::PeekTaken) {
             self.advance(self.left().len());
         }
-        if next?.contains(&b':') {
+        let next = next?;
+        self.session.past.peeked = Some(self.at());
+        if next.contains(&b':') {
             self.session.rest = Some(size);
             self.session.past.size = size;
             return self.begin_header();

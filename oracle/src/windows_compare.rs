@@ -50,9 +50,10 @@ impl<'a> Checker<'a> {
         found
     }
 
-    fn result(&self) -> u32 {
+    /// What the last window must be answered.
+    fn last(&self) -> &Listing {
         let last = self.wanted.last().and_then(Option::as_ref);
-        last.map_or(1, |wanted| wanted.listing.result)
+        &last.expect("the last window is asked").listing
     }
 }
 
@@ -106,17 +107,17 @@ fn by_tables(cut: &Cut, rust: Option<&SwiftJudge>) -> Result<Vec<Option<Wanted>>
     Ok(all)
 }
 
-/// One call on the session's first bytes, 12 laid over it; the judge must agree but for 12, the Rust but for 6.
+/// One call on the session's first bytes, 11 and 12 laid over it; the judge must agree but for these, the Rust but for 6.
 fn one_call(cut: &Cut, end: usize, slots: usize, rust: Option<&SwiftJudge>) -> Result<Wanted, String> {
     let (entry, bytes) = (cut.case.entry, &cut.case.bytes[..end]);
-    let (listing, waits) = reading::waiting_session(entry, bytes, slots, Wrong::LongRefuses);
+    let (listing, waits) = reading::as_by_windows(entry, bytes, slots, cut.strict);
     let judged = match rust {
         Some(judge) => judge.session(entry, bytes, slots, Vec::new()).0,
         None => Answer::Session(reading::session(entry, bytes, slots, Wrong::Nothing)),
     };
     let told = if rust.is_some() { listing.clone().as_rust() } else { listing.clone() };
     let agree = match &judged {
-        Answer::Session(judged) if told.result == 12 => judged.events.starts_with(&told.events),
+        Answer::Session(judged) if matches!(told.result, 11 | 12) => judged.events.starts_with(&told.events),
         Answer::Session(judged) => *judged == told,
         _ => false,
     };
@@ -167,19 +168,20 @@ fn parts(wanted: &Wanted, shown: Shown, sum: usize, table: &[u32]) -> Option<Str
     Some(format!("{sum} bytes are taken, {wanted} should be"))
 }
 
-/// A session that ends with 12 has the same answer and table however it is cut.
+/// A session that ends with 11 or 12 has the same answer and table however it is cut.
 fn cut_matters(cut: &Cut, seed: u64, number: u64) -> Option<String> {
     let last = |cut: &Cut| {
         let mut last = Shown::default();
         let table = cut.show(Bend::Nothing, |_, shown, _| last = Shown { taken: 0, ..shown });
         (last, table)
     };
-    let cut = Cut::plain(cut.case.clone(), cut.lengths.clone());
+    let cut = cut.filed();
     let another = cut.another(&mut Rng::new(!seed, number));
     (last(&cut) != last(&another)).then(|| format!("another answer if cut by {:?}", another.lengths))
 }
 
 pub fn describe(cut: &Cut) -> String {
+    let strict = if cut.strict { ", strict" } else { "" };
     let limit = if cut.limit == LONGEST { String::new() } else { format!(", limit {}", cut.limit) };
     let tables = if cut.tables.is_empty() {
         String::new()
@@ -187,7 +189,7 @@ pub fn describe(cut: &Cut) -> String {
         format!("\nslots of each: {:?}", cut.tables)
     };
     format!(
-        "{} slots {}{limit} {}\nnew bytes of each window: {:?}{tables}",
+        "{} slots {}{strict}{limit} {}\nnew bytes of each window: {:?}{tables}",
         cut.case.entry as char,
         cut.slots(),
         readable(&cut.case.bytes),
@@ -203,8 +205,8 @@ pub fn judge(kind: Kind) -> Option<SwiftJudge> {
 /// Runs the cases, prints counts by result and the first case that parts; gives whether none does.
 pub fn run(generator: Generator, numbers: Range<u64>) -> bool {
     let rust = judge(generator.kind);
-    let mut tally: BTreeMap<(char, u32), u64> = BTreeMap::new();
-    let (mut count, mut windows, mut differences) = (0u64, 0, 0u64);
+    let mut tally: BTreeMap<(char, bool, u32), u64> = BTreeMap::new();
+    let (mut count, mut windows, mut differences, mut into_mail) = (0u64, 0, 0u64, 0u64);
     for number in numbers {
         let cut = Cut::made(&generator, number);
         count += 1;
@@ -212,10 +214,12 @@ pub fn run(generator: Generator, numbers: Range<u64>) -> bool {
         let why = match Checker::new(&cut, rust.as_ref()) {
             Err(why) => Some(why),
             Ok(checker) => {
-                *tally.entry((cut.case.entry as char, checker.result())).or_default() += 1;
-                let long = checker.result() == 12;
+                let last = checker.last();
+                *tally.entry((cut.case.entry as char, cut.strict, last.result)).or_default() += 1;
+                into_mail += u64::from(cut.strict && last.events.iter().any(|event| event[0] == 1));
+                let alone = matches!(last.result, 11 | 12);
                 let parts = checker.difference(Bend::Nothing);
-                parts.or_else(|| if long { cut_matters(&cut, generator.seed, number) } else { None })
+                parts.or_else(|| if alone { cut_matters(&cut, generator.seed, number) } else { None })
             }
         };
         if let Some(why) = why {
@@ -225,9 +229,11 @@ pub fn run(generator: Generator, numbers: Range<u64>) -> bool {
             }
         }
     }
-    for ((entry, result), count) in &tally {
-        println!("  {entry} result {result}: {count}");
+    for ((entry, strict, result), count) in &tally {
+        println!("  {entry}{} result {result}: {count}", if *strict { " strict" } else { "" });
     }
+    let strict: u64 = tally.iter().filter(|((_, strict, _), _)| *strict).map(|(_, count)| count).sum();
+    println!("{strict} strict ones, {into_mail} of them read into a mail");
     println!("{count} cases, {windows} windows, {differences} differences");
     differences == 0
 }

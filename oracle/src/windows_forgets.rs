@@ -1,4 +1,4 @@
-//! What only bent readings of W2 ask for, and what they lose where a window begins.
+//! What only bent readings of W2 and W6 ask for, and what they lose where a window begins.
 
 use crate::fields::UNRECOGNISED;
 use crate::windows::{Phase, Session};
@@ -21,6 +21,10 @@ pub struct Past {
     pub held: Option<u8>,
     /// Where the literal's rest began that is skipped in pieces.
     pub skipped: Option<usize>,
+    /// Where the line stands that was peeked at last.
+    pub peeked: Option<usize>,
+    /// The byte taken last.
+    pub last: Option<u8>,
 }
 
 impl Session {
@@ -28,6 +32,7 @@ impl Session {
         match self.bend {
             Bend::FlagTrue => self.may = true,
             Bend::FlagFalse => self.may = false,
+            Bend::StrictLost if self.past.shown > window.len() => self.strict = false,
             Bend::HeadAnew => self.head = Head::default(),
             Bend::SeenLost => self.head.seen = false,
             Bend::EncodingLost => self.head.encoding = 0,

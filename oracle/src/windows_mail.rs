@@ -176,6 +176,7 @@ impl<'a> Walk<'a> {
     pub(crate) fn sized(&mut self, began: usize, left: u64) -> Step<()> {
         let here = (self.left().len() as u64).min(left);
         let whole = here == left;
+        self.spared(&self.left()[..here as usize])?;
         if whole || !self.is(Bend::SizedKept) {
             self.advance(here as usize);
             self.session.phase = Phase::Sized { began, left: left - here };
@@ -250,9 +251,11 @@ impl<'a> Walk<'a> {
                 return Ok(self.pass(began, &word));
             }
             marks.last = self.mark();
-            let Ok(line) = self.line() else {
+            let Ok(line) = self.next_line() else {
                 return self.unfinished(began, &word, &marks);
             };
+            self.spared(line)?;
+            self.advance(line.len());
             let crlf = line.ends_with(b"\r\n");
             self.session.may = match self.session.bend {
                 Bend::BareFeed => true,
@@ -344,6 +347,7 @@ impl<'a> Walk<'a> {
             }
             return Err((1, began));
         }
+        self.spared(&self.left()[..rest])?;
         self.session.past.skipped = None;
         self.advance(rest);
         self.leave_level()

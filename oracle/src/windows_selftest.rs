@@ -1,18 +1,20 @@
-//! Document 02's W2 by hand: windows and the answers they must get.
+//! Document 02's W2 by hand: windows and the answers they must get; W6 stands beside.
 
 use crate::case::{Case, ENOUGH, readable};
 use crate::cut::{Cut, around_limit};
 use crate::list::write_windows;
+use crate::strict_selftest;
 use crate::windows::{LONGEST, Session, Shown};
 use crate::wrong_windows::Bend;
 
 /// A cut session with what `batch --windows` must print of it.
-struct Known {
-    cut: Cut,
-    printed: String,
+#[derive(Clone)]
+pub struct Known {
+    pub cut: Cut,
+    pub printed: String,
 }
 
-fn known(entry: u8, windows: &[&str], printed: &str) -> Known {
+pub fn known(entry: u8, windows: &[&str], printed: &str) -> Known {
     let windows: Vec<&[u8]> = windows.iter().map(|window| window.as_bytes()).collect();
     known_bytes(entry, &windows, printed)
 }
@@ -24,7 +26,7 @@ fn known_bytes(entry: u8, windows: &[&[u8]], printed: &str) -> Known {
 }
 
 /// A POP3 mail with boundary q up to behind its blank line, 42 bytes, then windows.
-fn parted(windows: &[&str], answers: &str, events: &str, last: &str) -> Known {
+pub fn parted(windows: &[&str], answers: &str, events: &str, last: &str) -> Known {
     let front = "+OK 1 octets\r\nContent-Type: boundary=q\r\n\r\n";
     let all = [&[front], windows].concat();
     known(b'P', &all, &format!("42 1 42 3\n{answers}8 0 12 0\n1 14 26 0\n1 40 2 0\n{events}{last}\n"))
@@ -215,7 +217,7 @@ fn limited() -> Vec<Known> {
 /// Tables of several lengths: each window's events go by the table lent with it.
 fn lent_tables() -> bool {
     let mut table = [7; 16];
-    let mut session = Session::begin(b's', LONGEST, Bend::Nothing);
+    let mut session = Session::begin(b's', LONGEST, false, Bend::Nothing);
     let mut shows = |window: &[u8], numbers: usize, wanted: [u32; 4]| {
         let Shown { result, place, count, taken } = session.show(window, &mut table[..numbers]);
         [taken, result, place, count] == wanted
@@ -231,7 +233,7 @@ fn lent_tables() -> bool {
 
 /// 2 stays even if what is shown then would be within the limit, and any end stays for an empty window.
 fn ends_stay() -> bool {
-    let mut session = Session::begin(b's', 10, Bend::Nothing);
+    let mut session = Session::begin(b's', 10, false, Bend::Nothing);
     let mut table = [0; 8];
     let shown = [&b"a\n"[..], b"123456789", b"", b"221 x\n"].map(|window| session.show(window, &mut table));
     shown.map(|shown| [shown.taken, shown.result, shown.place, shown.count])
@@ -242,7 +244,15 @@ fn ends_stay() -> bool {
 pub fn run() -> (usize, usize) {
     let limits = around_limit().into_iter().zip(AROUND_LIMIT);
     let limits = limits.map(|(cut, printed)| Known { cut, printed: printed.to_string() });
-    let known = [taken(), regions(), literals(), boundaries(), limited(), (1..=9).map(long_at_level).collect()];
+    let known = [
+        taken(),
+        regions(),
+        literals(),
+        boundaries(),
+        limited(),
+        (1..=9).map(long_at_level).collect(),
+        strict_selftest::known(),
+    ];
     let mut failed = 0;
     let mut run = 0;
     for Known { cut, printed } in known.into_iter().flatten().chain(limits) {

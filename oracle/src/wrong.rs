@@ -7,9 +7,6 @@ macro_rules! wrongs {
         pub enum Wrong {
             /// The right reading.
             Nothing,
-            /// Right too, but a boundary over 70 bytes refuses with 12, as document 02 has it for
-            /// sessions by windows.
-            LongRefuses,
             $($name,)*
             $($wide),*
         }

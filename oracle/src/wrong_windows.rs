@@ -1,4 +1,4 @@
-//! Named wrong readings of document 02's W2, each with the entries it could show in.
+//! Named wrong readings of document 02's W2 and W6, each with the entries it could show in.
 
 macro_rules! bends {
     ($($name:ident $entries:literal $text:literal)*) => {
@@ -102,4 +102,33 @@ bends! {
     RestWindow "I" "the literal's rest is counted from the window's front"
     RestShown "I" "bytes shown again count twice for the literal's rest"
     SizedWindow "I" "a sized body's length is counted from the window's front"
+    // 11: where it is due
+    StrictAlways "SsPI" "a bare LF refuses with the setting off too"
+    StrictNever "SsPI" "a bare LF passes with the setting on too"
+    StrictLost "SsPI" "the setting is lost at a window's end"
+    ReturnAnywhere "SsPI" "a CR anywhere in the line is enough"
+    ReturnBefore "I" "a CR directly before the line is enough"
+    UnfinishedBare "SsPI" "a line that is not finished refuses"
+    OutsideUntested "SsPI" "lines outside mails are not tested"
+    HeaderUntested "SPI" "header lines are not tested"
+    TextUntested "SP" "text lines are not tested"
+    DotUntested "SP" "a dot before a bare LF is not tested"
+    SkippedUntested "SPI" "lines behind a close are not tested"
+    PeekedUntested "I" "a line that was peeked at is not tested, nor where it is read then"
+    StrictPreamble "SPI" "a bare LF in a preamble refuses"
+    StrictContent "SPI" "a bare LF in a content refuses"
+    StrictSized "I" "a bare LF in a sized body refuses"
+    StrictRest "I" "a bare LF in the literal's rest refuses"
+    StrictTwo "SPI" "two bytes that end in a bare LF refuse with 11"
+    // 11: what it comes before, its place, what it takes
+    ElevenListed "SsPI" "11 comes behind the line's event"
+    ThreeFirst "S" "3 comes before 11"
+    FourFirst "S" "4 comes before 11"
+    FiveFirst "S" "5 comes before 11"
+    TenFirst "SsPI" "10 comes before 11"
+    ByeFirst "s" "done by a 221 line comes before 11"
+    TlsFirst "P" "done by a TLS answer comes before 11"
+    ElevenFirst "SsPI" "11 comes before 2"
+    ElevenFeed "SsPI" "11 is placed at the LF"
+    ElevenTakes "SsPI" "11 takes up to its line"
 }
