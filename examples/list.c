@@ -1,7 +1,8 @@
 /* Lists a session from standard input: a letter (S SMTP client, s SMTP server, P POP3 server, I IMAP client), then the session.
  * - list: as its bytes come, in pieces of at most 1,460; what a piece adds is printed at once.
- * - list whole: in one call, when all of it has been read.
  * - list pieces FIRST THEN: a first piece of FIRST bytes, then pieces of THEN, each shown at once.
+ * - list strict, list strict pieces FIRST THEN: likewise, and a line that ends in LF alone is refused.
+ * - list whole: in one call, when all of it has been read.
  * - list direction PROTOCOL CLIENT_PORT SERVER_PORT CLIENT SERVER: guesses the direction, where CLIENT and SERVER are a side's first bytes, or -
  *   where they are not held.
  * Exits with 0; 1 where something cannot be read, held or written; 2 on bad usage. */
@@ -35,10 +36,11 @@ static const struct entry *entry_of(char letter) {
     return NULL;
 }
 
-/* The most bytes of the first piece and of the others; whether each is shown at once, also after a window of which nothing was taken. */
+/* The most bytes of the first piece and of the others; whether each is shown at once, also after a window of which nothing was taken; whether the session
+ * is strict. */
 struct pieces {
     uint32_t first, then;
-    int at_once;
+    int at_once, strict;
 };
 
 /* Bytes that were read and not taken, and the table; its first `printed` events are printed. */
@@ -125,6 +127,7 @@ static size_t show(struct mailindex_session *session, struct listing *l) {
 static int list_pieces(const struct entry *entry, const struct pieces *pieces, struct listing *l) {
     uint64_t choices[MAILINDEX_CHOICES] = {0};
     choices[MAILINDEX_ENTRY] = entry->number;
+    choices[MAILINDEX_STRICT] = (uint64_t)pieces->strict;
     struct mailindex_session session;
     if (mailindex_begin(choices, session.numbers, session.boundaries) != MAILINDEX_INCOMPLETE) {
         fprintf(stderr, "the library has no such entry\n");
@@ -192,15 +195,21 @@ int main(int count, char **words) {
         fprintf(stderr, "this program was built for another library\n");
         return 1;
     }
-    struct pieces pieces = {1460, 1460, 0};
-    if (count == 1) return list(&pieces);
     if (count == 2 && strcmp(words[1], "whole") == 0) return list(NULL);
+    if (count == 7 && strcmp(words[1], "direction") == 0) return direction(words + 2);
+    struct pieces pieces = {1460, 1460, 0, 0};
+    /* One call is never strict. */
+    if (count > 1 && strcmp(words[1], "strict") == 0) {
+        pieces.strict = 1;
+        count--;
+        words++;
+    }
+    if (count == 1) return list(&pieces);
     if (count == 4 && strcmp(words[1], "pieces") == 0) {
         if (!number(words[2], &pieces.first) || !number(words[3], &pieces.then)) return 2;
         pieces.at_once = 1;
         if (pieces.then > 0) return list(&pieces);
     }
-    if (count == 7 && strcmp(words[1], "direction") == 0) return direction(words + 2);
-    fprintf(stderr, "usage: list [whole | pieces FIRST THEN] < SESSION, or list direction PROTOCOL CLIENT_PORT SERVER_PORT CLIENT SERVER\n");
+    fprintf(stderr, "usage: list [whole | [strict] [pieces FIRST THEN]] < SESSION, or list direction PROTOCOL CLIENT_PORT SERVER_PORT CLIENT SERVER\n");
     return 2;
 }

@@ -1,7 +1,8 @@
 //! Lists a session from standard input: a letter (S SMTP client, s SMTP server, P POP3 server, I IMAP client), then the session.
 //! - `list`: as its bytes come, in pieces of at most 1,460; what a piece adds is printed at once.
-//! - `list whole`: in one call, when all of it has been read.
 //! - `list pieces FIRST THEN`: a first piece of FIRST bytes, then pieces of THEN, each shown at once.
+//! - `list strict`, `list strict pieces FIRST THEN`: likewise, and a line that ends in LF alone is refused.
+//! - `list whole`: in one call, when all of it has been read.
 //! - `list direction PROTOCOL CLIENT_PORT SERVER_PORT CLIENT SERVER`: guesses the direction, where CLIENT and SERVER are a side's first bytes,
 //!   or - where they are not held.
 //!
@@ -30,7 +31,7 @@ mod mailindex {
         pub const DISSECT: [Dissect; 4] = [mailindex_smtp_client, mailindex_smtp_server, mailindex_pop3_server, mailindex_imap_client];
     }
 
-    pub const VERSION: u32 = 3;
+    pub const VERSION: u32 = 4;
     pub const LIMIT: usize = 16_777_216;
     pub const WIDTH: usize = 4;
     /// The result of a session that goes on where there is more of it.
@@ -39,6 +40,7 @@ mod mailindex {
     const SESSION_BOUNDARIES: usize = 648;
     const CHOICES: usize = 8;
     const ENTRY: usize = 0;
+    const STRICT: usize = 1;
 
     #[derive(Clone, Copy)]
     pub enum Entry {
@@ -124,11 +126,12 @@ mod mailindex {
     }
 
     impl Session {
-        /// None where the library has no such entry.
-        pub fn begin(entry: Entry) -> Option<Session> {
+        /// None where the library has no such entry. A strict session refuses a line that ends in LF alone.
+        pub fn begin(entry: Entry, strict: bool) -> Option<Session> {
             let mut session = Session { numbers: [0; SESSION_NUMBERS], boundaries: [0; SESSION_BOUNDARIES] };
             let mut choices = [0; CHOICES];
             choices[ENTRY] = entry as u64 + 1;
+            choices[STRICT] = u64::from(strict);
             // SAFETY: the three arrays have the lengths that the header asks for, and are apart.
             let result = unsafe { c::mailindex_begin(choices.as_ptr(), session.numbers.as_mut_ptr(), session.boundaries.as_mut_ptr()) };
             (u64::from(result) == INCOMPLETE).then_some(session)
@@ -198,11 +201,13 @@ use std::process::ExitCode;
 /// What went wrong, and the exit status that says so.
 type Failure = (u8, String);
 
-/// The most bytes of the first piece and of the others; whether each is shown at once, also after a window of which nothing was taken.
+/// The most bytes of the first piece and of the others; whether each is shown at once, also after a window of which nothing was taken; whether the session
+/// is strict.
 struct Pieces {
     first: usize,
     then: usize,
     at_once: bool,
+    strict: bool,
 }
 
 fn unread(why: io::Error) -> Failure {
@@ -263,7 +268,7 @@ fn lend(table: &mut Vec<u32>, bytes: usize, events: u64) {
 
 fn list_pieces(pieces: Pieces, out: &mut impl Write) -> Result<(), Failure> {
     let (entry, mut input) = open()?;
-    let mut session = Session::begin(entry).ok_or((1, "the library has no such entry".into()))?;
+    let mut session = Session::begin(entry, pieces.strict).ok_or((1, "the library has no such entry".into()))?;
     let (mut held, mut table) = (Vec::new(), Vec::new());
     let mut piece = vec![0; pieces.first.max(pieces.then)];
     let (mut most, mut all, mut due, mut printed) = (pieces.first, 0, 0, 0);
@@ -303,21 +308,26 @@ fn direction(words: &[OsString], out: &mut impl Write) -> Result<(), Failure> {
     writeln!(out, "{}", guess as u32).and_then(|()| out.flush()).map_err(|why| (1, format!("the guess cannot be written: {why}")))
 }
 
-const USAGE: &str = "usage: list [whole | pieces FIRST THEN] < SESSION, or list direction PROTOCOL CLIENT_PORT SERVER_PORT CLIENT SERVER";
+const USAGE: &str = "usage: list [whole | [strict] [pieces FIRST THEN]] < SESSION, or list direction PROTOCOL CLIENT_PORT SERVER_PORT CLIENT SERVER";
 
 fn run(words: &[OsString]) -> Result<(), Failure> {
     let mut out = BufWriter::new(io::stdout().lock());
     if mailindex::version() != mailindex::VERSION {
         return Err((1, "this program was built for another library".into()));
     }
-    match words {
-        [] => list_pieces(Pieces { first: 1460, then: 1460, at_once: false }, &mut out),
-        [verb] if verb == "whole" => list_whole(&mut out),
+    // One call is never strict.
+    let (strict, by) = match words {
+        [verb] if verb == "whole" => return list_whole(&mut out),
+        [verb, words @ ..] if verb == "direction" && words.len() == 5 => return direction(words, &mut out),
+        [verb, by @ ..] if verb == "strict" => (true, by),
+        by => (false, by),
+    };
+    match by {
+        [] => list_pieces(Pieces { first: 1460, then: 1460, at_once: false, strict }, &mut out),
         [verb, first, then] if verb == "pieces" => match (number(first)? as usize, number(then)? as usize) {
             (_, 0) => Err((2, USAGE.into())),
-            (first, then) => list_pieces(Pieces { first, then, at_once: true }, &mut out),
+            (first, then) => list_pieces(Pieces { first, then, at_once: true, strict }, &mut out),
         },
-        [verb, words @ ..] if verb == "direction" && words.len() == 5 => direction(words, &mut out),
         _ => Err((2, USAGE.into())),
     }
 }

@@ -22,7 +22,7 @@ extern "C" {
 #endif
 
 /* What this header describes; mailindex_version() says what the library is. */
-#define MAILINDEX_VERSION 3
+#define MAILINDEX_VERSION 4
 
 /* The longest session, in bytes; and how many numbers of the table an event takes. */
 #define MAILINDEX_LIMIT 16777216
@@ -91,6 +91,7 @@ enum mailindex_result {
     MAILINDEX_TOO_DEEP = 9,      /* a ninth multipart level [after its blank line] */
     MAILINDEX_TABLE_FULL = 10,   /* an event is due and no slot is free [that event's offset] */
     /* By windows only: */
+    MAILINDEX_BARE_LF = 11,       /* in a strict session, a line whose LF has no CR directly before it in the line [that line] */
     MAILINDEX_LONG_BOUNDARY = 12, /* a multipart's boundary of more than 70 bytes would open [after its blank line] */
     MAILINDEX_NO_SESSION = 20     /* the record cannot be a session's: mailindex_begin and mailindex_show make none such; no event was written [0] */
 };
@@ -117,8 +118,9 @@ void mailindex_imap_client(const uint8_t *bytes, size_t length, uint32_t *table,
  *         mailindex_show(session.numbers, session.boundaries, bytes, length, table, numbers, answer);
  *         answer[3] bytes of it were taken and need not be kept.
  *
- * However the session is cut, also byte by byte or with empty windows, its last answer and table are those of one call on all its bytes. Two refusals
- * apart: a boundary of more than 70 bytes (12), which only windows refuse; and more bytes than the limit (2), where the events of earlier windows stay.
+ * However the session is cut, also byte by byte or with empty windows, its last answer and table are those of one call on all its bytes. Three refusals
+ * apart: a boundary of more than 70 bytes (12), which only windows refuse; more bytes than the limit (2), where the events of earlier windows stay; and, in
+ * a strict session, a line that does not end in CRLF (11), where the events are the first of those.
  * INCOMPLETE means: show more, if there is more. After any other answer the session is over: it takes nothing more and repeats its answer. So is one
  * that met TABLE_FULL: who lends less than a slot for each byte keeps a copy of the record, and goes back to it with that window and a larger table.
  *
@@ -132,8 +134,8 @@ void mailindex_imap_client(const uint8_t *bytes, size_t length, uint32_t *table,
  * What was taken is never looked at again. */
 
 /* A session between windows: the caller holds it, the library makes it. What its numbers are is not said; it may be copied, moved and stored, and a
- * copy goes on from where the session was then. It holds no pointer and no byte of the session but boundaries. Any other content is safe to show: it is
- * answered NO_SESSION, or read as the session that it happens to describe. */
+ * copy goes on from where the session was then, with what was chosen for it. It holds no pointer and no byte of the session but boundaries. Any other
+ * content is safe to show: it is answered NO_SESSION, or read as the session that it happens to describe. */
 #define MAILINDEX_SESSION_NUMBERS 24
 #define MAILINDEX_SESSION_BOUNDARIES 648
 struct mailindex_session {
@@ -142,10 +144,18 @@ struct mailindex_session {
 };
 
 /* What is chosen where a session begins: a number for each choice, at the choice's index. 0 is a choice's default, and what has no name yet is 0, so that
- * a caller who leaves it so is not touched by a choice that is added. The entry has no default. */
+ * a caller who leaves it so is not touched by a choice that is added. The entry has no default.
+ *
+ * Strict is off (0) or on (1). In RFC 5321 an LF alone ends no line; here it does. So a dot line behind such an LF ends a mail that goes on for who keeps to
+ * the RFC, and the text behind that line, smuggled past him, is read as a second mail. A strict session ends with BARE_LF at the first line that is read
+ * whose LF has no CR directly before it in the line, before that line's event and every other test of it.
+ * Lines are: all that stands outside of mails; headers; bodies that are listed by lines, the dot line too; what follows a multipart's close. No lines, so
+ * that an LF alone passes there: what stands before the first part; bodies of kinds 4 and 5; the two bytes behind a delimiter or a literal; the last bytes
+ * of a literal with parts, where they are fewer than its boundary has. */
 #define MAILINDEX_CHOICES 8
 enum mailindex_choice {
-    MAILINDEX_ENTRY = 0
+    MAILINDEX_ENTRY = 0,
+    MAILINDEX_STRICT = 1
 };
 
 enum mailindex_entry {
@@ -155,8 +165,8 @@ enum mailindex_entry {
     MAILINDEX_IMAP_CLIENT = 4
 };
 
-/* Begins a session: INCOMPLETE; or NO_SESSION where the entry is none of the four, or a choice without a name is not 0: the record is then no session's.
- * choices points to MAILINDEX_CHOICES numbers, session_numbers and boundaries to those of a struct mailindex_session. */
+/* Begins a session: INCOMPLETE; or NO_SESSION where the entry is none of the four, strict is neither 0 nor 1, or a choice without a name is not 0: the
+ * record is then no session's. choices points to MAILINDEX_CHOICES numbers, session_numbers and boundaries to those of a struct mailindex_session. */
 uint32_t mailindex_begin(const uint64_t *choices, uint64_t *session_numbers, uint8_t *boundaries);
 
 /* Shows a window. answer[0] is the result, answer[1] the place, answer[2] the number of events in the table, all as of one call on the bytes so far;
