@@ -44,7 +44,8 @@ use Rattle.windows.specs.Stands.{fresh, enter, enters, opens, copied, clipped, 
 use Rattle.windows.specs.Windows.{lands}
 use Rattle.phases.proofs.Reactions.{offered-mail, offered-not}
 use Rattle.phases.proofs.Turning.{to-end, piece-of, waits-whole, halts, leads, leads-written, leads-full, came-leaves, came-turn}
-use Rattle.phases.specs.Phasing.{Passes, Halts, haltedOf, slot, outside, Slots, Kept, boundaryOf, knownAs, unheard, stateOf, Fits, Piece, Came, TurnIs, HeadIs, overOf, onwardOf}
+use Rattle.phases.specs.Phasing.{slot, outside, Slots, Kept, boundaryOf, knownAs, unheard, stateOf, Fits, Piece, Came, TurnIs, HeadIs, overOf, onwardOf}
+use Rattle.phases.specs.Phasing.{Passes, Halts, haltedOf}
 use Rattle.phases.specs.Phasing.{Learns, BegunIs, DeeperIs, behindOf}
 use Rattle.phases.specs.declared.Heard.{Heard}
 use Rattle.phases.specs.declared.Phase.{Phase}
@@ -229,7 +230,8 @@ pub begins-later : {m : Mail} {a : ℕ} (to : ℕ) → Begins m a → a ≤ to �
 begins-later to d h = record { is = λ size start q. omega (arith, d .is size start q) }
 
 -- the loop's invariant: what is left at p, with what is heard, is what was left at a for the phase ph
-pub record HeadAt (set : Settings) (w : List ℕ) (base a : ℕ) (k₀ t₀ : List ℕ) (log₀ : Log) (ph : Phase) (m : Mail) (x : Heard) (i : ℕ) (k : List ℕ) (p : ℕ) (t : List ℕ) (log : Log) : Type 0 where
+pub record HeadAt (set : Settings) (w : List ℕ) (base a : ℕ) (k₀ t₀ : List ℕ) (log₀ : Log) (ph : Phase) (m : Mail) (x : Heard) (i : ℕ) (k : List ℕ)
+    (p : ℕ) (t : List ℕ) (log : Log) : Type 0 where
   pub from : a ≤ p
   pub slots : Slots k
   pub deep : i ≤ 8
@@ -238,7 +240,8 @@ pub record HeadAt (set : Settings) (w : List ℕ) (base a : ℕ) (k₀ t₀ : Li
   pub as-many : length k ≡ length k₀
   pub long : length t ≡ length t₀
 
-pub head-start : {set : Settings} {w : List ℕ} {base a : ℕ} {t : List ℕ} {log : Log} {m : Mail} {x : Heard} {i : ℕ} {k : List ℕ} → a ≤ length w → Slots k → i ≤ 8 → Begins m (base + a)
+pub head-start : {set : Settings} {w : List ℕ} {base a : ℕ} {t : List ℕ} {log : Log} {m : Mail} {x : Heard} {i : ℕ} {k : List ℕ}
+    → a ≤ length w → Slots k → i ≤ 8 → Begins m (base + a)
     → HeadAt set w base a k t log (is.Head m x i) m x i k a t log
 head-start h s v b = record { from = omega arith; slots = s; deep = v; begins = b; came = record { within = h; is = refl }; as-many = refl; long = refl }
 

@@ -231,7 +231,8 @@ found-ends {w} {p} {b} {e} d = record {
   is = λ settings f end u base.
       let P = by-lines (word-marks (dash b) (omega arith)) in
       let g : Comes settings taking P (lines-under u) true (base + p) (drop p w) (got (part w p e) (drop e w)) =
-      subst (Comes settings taking P (lines-under u) true (base + p) (drop p w)) (delimited b (drop p w) ∙ d .is) (comes settings taking P (lines-under u) true (base + p) (drop p w)) in
+      subst (Comes settings taking P (lines-under u) true (base + p) (drop p w)) (delimited b (drop p w) ∙ d .is)
+      (comes settings taking P (lines-under u) true (base + p) (drop p w)) in
       record { on = d .on; within = d .within; is = rw (to-end base d) at g };
 }
 

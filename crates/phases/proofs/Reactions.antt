@@ -234,7 +234,8 @@ module _ {set : Settings} {w : List ℕ} {base p : ℕ} {ph : Phase} {kind : ℕ
   lined-full {e = e} d n q = record {
     is = λ so l k.
         rw (q, l .stands k)
-        (leads-full (piece-of so (rw (l .wants) (d .line .ends)) (rw (l .wants) (d .passes)) refl) (l .behind (base + p) (part w p e)) (l .is (base + p) (part w p e)) (rw (clean-length (d .line)) at n));
+        (leads-full (piece-of so (rw (l .wants) (d .line .ends)) (rw (l .wants) (d .passes)) refl) (l .behind (base + p) (part w p e)) (l .is (base + p) (part w p e))
+        (rw (clean-length (d .line)) at n));
   }
 
 -- a loop over the lines of such a phase: what is left at p is what was left at a

@@ -62,7 +62,8 @@ lands-full base {t} {log} {es} {a} {u} more o w =
     ∙ ap (landed base o) poured)
 
 -- an end that is no end of reading: nothing is taken
-pub refuses : (set : Settings) (base : ℕ) (t : List ℕ) (log : Log) (q at : ℕ) (s : List ℕ) → refused base t TableFull q log ≡ lands base t log (pieces set (fresh (ends TableFull q)) at s)
+pub refuses : (set : Settings) (base : ℕ) (t : List ℕ) (log : Log) (q at : ℕ) (s : List ℕ)
+    → refused base t TableFull q log ≡ lands base t log (pieces set (fresh (ends TableFull q)) at s)
 unfolding lands pour landed refused keeps over standResult resultOf
 refuses set base t log q at s = sym (ap (lands base t log) (over-stays set (fresh (ends TableFull q)) at s refl))
 
@@ -122,7 +123,10 @@ module _ {set : Settings} {w : List ℕ} {base p : ℕ} {f : Stand} {e : ℕ} {r
   leads-written {next} {u} {ph} n g = record {
     farther = d .on;
     fits = g .fits;
-    came = record { within = d .within; is = rw (g .is) (lands-written base (pieces set (enter (re .next) (base + e)) (base + e) (drop e w)) n ∙ ap (lands base t log) (sym (d .is))) };
+    came = record {
+      within = d .within;
+      is = rw (g .is) (lands-written base (pieces set (enter (re .next) (base + e)) (base + e) (drop e w)) n ∙ ap (lands base t log) (sym (d .is)));
+    };
   }
 
   pub leads-full : {es : List Event} {a : Stop} {u : List ℕ} (more : List Event) → re .events ≡ es ++ more → Full t log es a u
@@ -144,7 +148,8 @@ module _ {set : Settings} {w : List ℕ} {base p : ℕ} {f : Stand} {e : ℕ} {r
   unfolding pour
   leads-still q g = leads-written (record { is = rw q }) g
 
-pub leads : {set : Settings} {w : List ℕ} {base p : ℕ} {f : Stand} {e : ℕ} {re : Reaction State} → Piece set w base p f e re → (k t : List ℕ) (log : Log) (n : Noted) (u : List ℕ) (ph : Phase)
+pub leads : {set : Settings} {w : List ℕ} {base p : ℕ} {f : Stand} {e : ℕ} {re : Reaction State} → Piece set w base p f e re
+    → (k t : List ℕ) (log : Log) (n : Noted) (u : List ℕ) (ph : Phase)
     → Notes t log (re .events) n u → Enters k (re .next) (base + e) ph → TurnIs set w base p k t log f (onwardOf n ph e) u
 leads d k t log (noted.Written next) u ph n g = leads-written d n g
 leads {re = re} d k t log (noted.Stopped a) u ph n g = leads-full d [] (sym (append-nil (re .events))) n

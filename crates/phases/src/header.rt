@@ -51,7 +51,8 @@ pub fn head(
     log: Log,
 ) -> Turn
     requires { ⌜ (base + length (now w) ≤ limit) × (at ≤ length (now w)) × (level ≤ 8) × Slots (now kept) × Begins mail (base + at) ⌝ }
-    ensures { λ r. ⌜ HeadIs settings (now (w .entry)) base at (now (kept .entry)) (now (table .entry)) log (Phase.Head mail heard level) r (now (kept .exit)) (now (table .exit)) ⌝ }
+    ensures { λ r. ⌜ HeadIs settings (now (w .entry)) base at (now (kept .entry)) (now (table .entry)) log (Phase.Head mail heard level) r
+        (now (kept .exit)) (now (table .exit)) ⌝ }
 {
     let mut p = at;
     let mut log = log;

@@ -113,7 +113,8 @@ pub fn content(
     log: Log,
 ) -> Turn
     requires { ⌜ (base + length (now w) ≤ limit) × (p ≤ length (now w)) × (level ≤ 7) × (from ≤ base + p) × Slots (now kept) × Begins mail (base + p) ⌝ }
-    ensures { λ r. ⌜ ((set : Settings) → TurnOf set (now (w .entry)) base p (now (kept .entry)) (now (table .entry)) log (Phase.Content mail encoding level from here) r (now (table .exit))) ⌝ }
+    ensures { λ r. ⌜ ((set : Settings) → TurnOf set (now (w .entry)) base p (now (kept .entry)) (now (table .entry)) log
+        (Phase.Content mail encoding level from here) r (now (table .exit))) ⌝ }
 {
     let n = length_at(kept, level);
     let first = level * SLOT + 1;

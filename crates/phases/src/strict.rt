@@ -4,7 +4,8 @@ ghost use mathlib.Core.Bool.{_&&_};
 ghost use Prim.Native.Nat.{_+_, _≤_, _<_};
 ghost use lib.ListN.{length};
 ghost use Rattle.fields.specs.Common.{part};
-ghost use Rattle.reading.specs.Reading.{aLine};
+ghost use Rattle.reading.specs.Bytes.{endsWith};
+ghost use Rattle.reading.specs.Reading.{aLine, crlf};
 ghost use Rattle.rules.specs.Sessions.{limit};
 ghost use Rattle.rules.specs.Strict.{isBare};
 ghost use Rattle.phases.specs.Phasing.{LineIs, CleanLineIs, haltedOf};
@@ -54,9 +55,15 @@ fn refuses(settings: Settings, w: &[u8], p: usize, e: usize) -> bool
     ensures { λ r. ⌜ r ≡ (isBare aLine (part (now (w .entry)) p e) && settings .strict) ⌝ }
 {
     if settings.strict {
-        return !reading::ends_with(&w[p..e], b"\r\n");
+        return !ends_in_crlf(&w[p..e]);
     }
     false
+}
+
+fn ends_in_crlf(l: &[u8]) -> bool
+    ensures { λ r. ⌜ r ≡ endsWith crlf (now (l .entry)) ⌝ }
+{
+    reading::ends_with(l, b"\r\n")
 }
 
 // No line is finished, and the phase waits; or the line is refused, and the window takes nothing.

@@ -90,7 +90,8 @@ module _ {State : Type 0} (need : State → Need) (react : State → ℕ → Lis
         ∙ machine.run-short State read does law (refused at) (at + length p) r (final at r)
 
     short-turn : (st : State) (at : ℕ) (s : List ℕ) (g : Got) → read st s ≡ g
-        → ((su : State) (to : ℕ) (r : List ℕ) → length r < length s → Shortened refused (Strictly su to r) (Plainly su to r)) → Shortened refused (Strictly st at s) (Plainly st at s)
+        → ((su : State) (to : ℕ) (r : List ℕ) → length r < length s → Shortened refused (Strictly su to r) (Plainly su to r))
+        → Shortened refused (Strictly st at s) (Plainly st at s)
     short-turn st at s short e ih = alike (waits st at s e)
     short-turn st at s (got p r) e ih =
         by-test (isBare (need st) p && strict)

@@ -153,7 +153,8 @@ zeros (suc n) (suc j) = zeros n j
 zeros-short : (k : List ℕ) (n : ℕ) → ((j : ℕ) → getD k j 0 ≡ 0) → shortTo k n ≡ true
 zeros-short k n h = by-short k n (λ j g. omega (arith, h (j * 72)))
 
-pub begun-so : (set : Settings) (e : Entry) {s : Session} → s .settings ≡ set → s .phase ≡ startsAt e → s .at ≡ 0 → s .log ≡ noEvents → ((j : ℕ) → getD (s .boundaries) j 0 ≡ 0) → Begun set e s
+pub begun-so : (set : Settings) (e : Entry) {s : Session} → s .settings ≡ set → s .phase ≡ startsAt e → s .at ≡ 0 → s .log ≡ noEvents
+    → ((j : ℕ) → getD (s .boundaries) j 0 ≡ 0) → Begun set e s
 unfolding stateOf enters fitsBy
 begun-so set SmtpClient {s} c p a l z = record { is = rw (p, a, l); settings = c; sound = rw (p, a, zeros-short (s .boundaries) 9 z) }
 begun-so set SmtpServer {s} c p a l z = record { is = rw (p, a, l); settings = c; sound = rw (p, a, zeros-short (s .boundaries) 9 z) }
@@ -178,7 +179,8 @@ module _ (s : Session) (ok : isSound s ≡ true) where
 
   module _ {w t : List ℕ} {r : Shown} where
     -- it is over: the record stays
-    pub shows-over : over (stateOf (s .boundaries) (s .phase)) ≡ true → Answers (s .settings) (record { phase = s .phase; taken = 0; log = s .log }) (s .at) (s .boundaries) r → Read s w t r t
+    pub shows-over : over (stateOf (s .boundaries) (s .phase)) ≡ true
+        → Answers (s .settings) (record { phase = s .phase; taken = 0; log = s .log }) (s .at) (s .boundaries) r → Read s w t r t
     shows-over h a =
         let z : s .at + 0 ≡ s .at = omega arith in
         let e : r .session ≡ s = rw z at (a .session) in

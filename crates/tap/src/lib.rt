@@ -110,7 +110,8 @@ pub fn show_lent(
     w: &[u8],
     table: &mut [u32],
 ) -> Seen
-    ensures { λ r. ⌜ Shows (sessionWith settings phase at log (now (kept .entry))) (now (w .entry)) (now (table .entry)) (shownWith settings r (now (kept .exit))) (now (table .exit)) ⌝ }
+    ensures { λ r. ⌜ Shows (sessionWith settings phase at log (now (kept .entry))) (now (w .entry)) (now (table .entry))
+        (shownWith settings r (now (kept .exit))) (now (table .exit)) ⌝ }
 {
     let here = Spot {
         phase,

@@ -23,7 +23,8 @@ unfolding shows
 called x w c d =
     let v = windowOf x w in
     let n = taken (recordOf (x .session)) (window (x .session .settings) (recordOf (x .session)) (x .table) v) in (
-      rw (d .taken, d .settings) (ap {B = Tap} (λ (g : windows.Shown). record { settings = x .session .settings; session = g .next; table = g .table; untaken = drop n v }) (d .is)),
+      rw (d .taken, d .settings)
+          (ap {B = Tap} (λ (g : windows.Shown). record { settings = x .session .settings; session = g .next; table = g .table; untaken = drop n v }) (d .is)),
       rw (d .answer, d .taken) (ap {B = Answered} (λ (g : windows.Shown). record { answer = said (g .next) (g .table); took = n }) (d .is)),
     )
 

@@ -177,7 +177,8 @@ module _ (set : Settings) where
       unfolding takes
       cut-by h (at-once so e n) =
           let a : pieces set (enter st at) at (take k u) ≡ stay (fresh so) at (take k u) =
-          rw e (pieces-short set (fresh so) at (take k u) (ap (λ (x : Need). fetch x (take k u)) n ∙ got-cut (need st) u q v k read-changed (omega (arith, piece-changed .long)))) in
+          rw e (pieces-short set (fresh so) at (take k u) (ap (λ (x : Need). fetch x (take k u)) n
+          ∙ got-cut (need st) u q v k read-changed (omega (arith, piece-changed .long)))) in
           let b : pieces set (enter st at) at (take k s) ≡ stay (fresh so) at (take k s) =
           rw e (pieces-short set (fresh so) at (take k s) (ap (λ (x : Need). fetch x (take k s)) n ∙ got-cut (need st) s p r k f h)) in
           rw (a, b) (record { events = refl; state = refl; at = refl })

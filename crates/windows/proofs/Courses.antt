@@ -53,7 +53,8 @@ module _ (set : Settings) where
   pub pieces-short : (f : Stand) (at : ℕ) (s : List ℕ) → takes f s ≡ short → pieces set f at s ≡ stay f at s
   pieces-short = machine.run-short Stand takes (does set) taking
 
-  pub pieces-got : (f : Stand) (at : ℕ) (s p r : List ℕ) → takes f s ≡ got p r → pieces set f at s ≡ before (does set f at p .events) (pieces set (does set f at p .next) (at + length p) r)
+  pub pieces-got : (f : Stand) (at : ℕ) (s p r : List ℕ) → takes f s ≡ got p r
+      → pieces set f at s ≡ before (does set f at p .events) (pieces set (does set f at p .next) (at + length p) r)
   pieces-got = machine.run-got Stand takes (does set) taking
 
   -- ---- the course of a read: it waits, and is answered as in document 01; or it has its piece, and goes on as there; or 12
@@ -65,7 +66,8 @@ module _ (set : Settings) where
     pub place : standPlace stand (at + far) ≡ placeOf st at
 
   unfoldable pub Follows : State → ℕ → List ℕ → Got → Type 0
-  Follows st at s (got p r) = pieces set (enter st at) at s ≡ before (reactWith set st at p .events) (pieces set (enter (reactWith set st at p .next) (at + length p)) (at + length p) r)
+  Follows st at s (got p r) =
+      pieces set (enter st at) at s ≡ before (reactWith set st at p .events) (pieces set (enter (reactWith set st at p .next) (at + length p)) (at + length p) r)
   Follows st at s short = Waits st at s
 
   pub data Course (st : State) (at : ℕ) : Type 0 where
@@ -74,7 +76,8 @@ module _ (set : Settings) where
 
   -- ---- a read that is taken whole
   module _ (st : State) (at : ℕ) (so : State) (entered-so : enter st at ≡ fresh so) (need-same : need so ≡ need st) (result-same : resultOf so ≡ resultOf st)
-      (place-same : placeOf so at ≡ placeOf st at) (does-same : (p : List ℕ) → entered (reactWith set so at p) (at + length p) ≡ entered (reactWith set st at p) (at + length p)) where
+      (place-same : placeOf so at ≡ placeOf st at)
+      (does-same : (p : List ℕ) → entered (reactWith set so at p) (at + length p) ≡ entered (reactWith set st at p) (at + length p)) where
     by-piece : (s : List ℕ) (g : Got) → fetch (need st) s ≡ g → Follows st at s g
     unfolding Follows takes does standResult standPlace
     by-piece s short e =

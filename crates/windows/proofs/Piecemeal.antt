@@ -50,7 +50,8 @@ module _ (set : Settings) where
     turned : (u : U) (at : ℕ) (s p r : List ℕ) (re : Reaction Stand) → piece u s ≡ got p r → does set (f u) at p ≡ re
         → pieces set (f u) at s ≡ before (re .events) (pieces set (re .next) (at + length p) r)
     turned u at s p r re e d =
-        machine.run-got Stand takes (does set) law (f u) at s p r (under .takes u s ∙ e) ∙ ap (λ (x : Reaction Stand). before (x .events) (pieces set (x .next) (at + length p) r)) d
+        machine.run-got Stand takes (does set) law (f u) at s p r (under .takes u s ∙ e)
+        ∙ ap (λ (x : Reaction Stand). before (x .events) (pieces set (x .next) (at + length p) r)) d
 
     at-last : (u : U) (at : ℕ) (s p r : List ℕ) → piece u s ≡ got p r → last u p ≡ true → Comes u at s (whole u s)
     unfolding Comes

@@ -43,7 +43,8 @@ unfolding lands
 lands-alike base t log a b w = ap (λ (es : List Event). landed base a (pour es t log)) (w .events) ∙ landed-alike base a b w (pour (b .events) t log)
 
 module _ (set : Settings) where
-  window-alike : (r : Record) (t v w : List ℕ) → length v ≡ length w → Alike (pieces set (r .stand) (r .at) v) (pieces set (r .stand) (r .at) w) → window set r t v ≡ window set r t w
+  window-alike : (r : Record) (t v w : List ℕ) → length v ≡ length w
+      → Alike (pieces set (r .stand) (r .at) v) (pieces set (r .stand) (r .at) w) → window set r t v ≡ window set r t w
   unfolding window
   window-alike r t v w n a =
       let e = lands-alike (r .at) t (r .log) (pieces set (r .stand) (r .at) v) (pieces set (r .stand) (r .at) w) a in
@@ -81,7 +82,8 @@ module _ (set : Settings) where
     lives s x (beyond seen more m u log p h e) g = absurd (apart (sym h ∙ g))
 
     -- ---- one window of each of two taps
-    module _ (s v w z : List ℕ) (x y : Tap) (x-set : x .settings ≡ set) (y-set : y .settings ≡ set) (session-same : y .session ≡ x .session) (table-same : y .table ≡ x .table) (i : At s x) (j : At v y)
+    module _ (s v w z : List ℕ) (x y : Tap) (x-set : x .settings ≡ set) (y-set : y .settings ≡ set)
+        (session-same : y .session ≡ x .session) (table-same : y .table ≡ x .table) (i : At s x) (j : At v y)
         (long : length v ≡ length s) (next-long : length z ≡ length w)
         (was : Alike (pieces set f 0 v) (pieces set f 0 s)) (will : Alike (pieces set f 0 (v ++ z)) (pieces set f 0 (s ++ w))) where
       while-live : Lives s x → Lives v y → window set (x .session) (x .table) (y .untaken ++ z) ≡ window set (x .session) (x .table) (x .untaken ++ w)
@@ -110,7 +112,8 @@ module _ (set : Settings) where
           (λ h. while-live (lives s x i h) (lives v y j (rw session-same h))))
 
     -- ---- windows one after another
-    same-answers : (ws vs : List (List ℕ)) (s v : List ℕ) (x y : Tap) → x .settings ≡ set → y .settings ≡ set → CutAlike ws vs → length v ≡ length s → y .session ≡ x .session → y .table ≡ x .table
+    same-answers : (ws vs : List (List ℕ)) (s v : List ℕ) (x y : Tap) → x .settings ≡ set → y .settings ≡ set
+        → CutAlike ws vs → length v ≡ length s → y .session ≡ x .session → y .table ≡ x .table
         → At s x → At v y → ((k : ℕ) → Alike (pieces set f 0 (take k (v ++ flatten vs))) (pieces set f 0 (take k (s ++ flatten ws)))) → answers y vs ≡ answers x ws
     unfolding CutAlike answers shows flatten
     same-answers [] [] s v x y p q c long a b i j told = refl

@@ -7,14 +7,18 @@ use Rattle.input.proofs.Lent.{lent}
 use Rattle.cuts.proofs.read_windows.Statement.{statement}
 use Rattle.cuts.proofs.read_windows.Tie as tie
 
+abbrev start : tie.Else3 → tie.Start
+start c = c .before .before .before .before .before .before .before .before .before .before .before .before .before .before
+
 -- as many lengths as there are windows are read
 slice-aggregate-filled-2 : tie.Need-slice-aggregate-filled-2
-slice-aggregate-filled-2 c = sym (length-take-le _ (c .before .before .before .before .before .before .before .before .before .before .before .before .before .before .before .args .lengths .now) (omega (arith, c .before .if3 .left)))
+slice-aggregate-filled-2 c = sym (length-take-le _ (start (c .before) .args .lengths .now) (omega (arith, c .before .if3 .left)))
 
 slice-aggregate-case : tie.Need-slice-aggregate-case
 slice-aggregate-case c =
-    let read = c .before .before .before .before .before .before .before .before .filled2 in
-    lent _ (c .before .before .before .before .before .before .before .before .before .before .before .before .before .before .before .before .before .before .before .before .before .before .before .before .args .lengths .now) (read .last .0) (omega (arith, c .before .before .before .before .before .before .before .before .before .before .if3 .left)) (read .kept .0)
+    let read = c .before .before .before .before .before .before .before .before in
+    let room = read .before .before in
+    lent _ (start room .args .lengths .now) (read .filled2 .last .0) (omega (arith, room .if3 .left)) (read .filled2 .kept .0)
 
 pub read-windows-spec : {M : Type 1} → statement M
 read-windows-spec =

@@ -5,7 +5,11 @@ use Rattle.flat.proofs.row_by.Tie as tie
 
 returns : tie.Need-returns
 returns c =
-    rw (c .before .before .before .before .encoding-number .ensures, c .before .before .before .result-number .ensures, c .before .before .bit .ensures, c .before .bit2 .ensures, c .bit3 .ensures)
+    let bit-ensures = c .before .before .bit .ensures in
+    let after-result-number = c .before .before .before in
+    let result-number-ensures = after-result-number .result-number .ensures in
+    let encoding-number-ensures = after-result-number .before .encoding-number .ensures in
+    rw (encoding-number-ensures, result-number-ensures, bit-ensures, c .before .bit2 .ensures, c .bit3 .ensures)
 
 pub row-by-spec : {M : Type 1} → statement M
 row-by-spec =

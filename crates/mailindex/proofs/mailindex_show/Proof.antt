@@ -7,7 +7,9 @@ use Rattle.mailindex.proofs.mailindex_show.Tie as tie
 returns : tie.Need-returns
 returns c =
     let seen = c .before .before .before .before .before .before .show-lent in
-    showing (seen .result) (c .before .before .before .before .before .before .before .before .before .before .before .before .before .settings-of .ensures) (c .before .before .before .before .before .before .before .before .before .before .before .phase-of .ensures) (seen .ensures) (c .before .numbers-of .ensures) (c .shown-numbers .ensures)
+    showing (seen .result) (c .before .before .before .before .before .before .before .before .before .before .before .before .before .settings-of .ensures)
+    (c .before .before .before .before .before .before .before .before .before .before .before .phase-of .ensures) (seen .ensures) (c .before .numbers-of .ensures)
+    (c .shown-numbers .ensures)
 
 pub mailindex-show-spec : {M : Type 1} → statement M
 mailindex-show-spec =

@@ -42,13 +42,19 @@ returns c =
 
 -- ---- no line is finished, or it is refused: it begins before the limit
 halted-requires : tie.Need-halted-requires
-halted-requires c κs = omega (arith, c .before .before .before .before .before .pre .0, c .before .before .before .before .before .pre .1)
+halted-requires c κs =
+    let pre = c .before .before .before .before .before .pre in
+    omega (arith, pre .0, pre .1)
 
 -- the window is over
 returns-2 : tie.Need-returns-2
 unfolding wants stateOf Fits
 returns-2 c =
-    λ k t. rw (c .halted .ensures) (halts _ k t _ is.Hello hello refl refl (rw (c .before .before .o .given .1) at (c .before .before .before .before .line .ensures)) (c .before .before .before .before .before .before .pre .1) tt)
+    let o-is = c .before .before .o .given .1 in
+    let after-line = c .before .before .before .before in
+    let line-ensures = after-line .line .ensures in
+    let start = after-line .before .before in
+    λ k t. rw (c .halted .ensures) (halts _ k t _ is.Hello hello refl refl (rw o-is at line-ensures) (start .pre .1) tt)
 
 -- ---- neither HELO nor EHLO: the session is over
 returns-3 : tie.Need-returns-3

@@ -33,13 +33,19 @@ note-requires c κs =
 
 -- ---- no line is finished, or it is refused: it begins before the limit
 halted-requires : tie.Need-halted-requires
-halted-requires c κs = omega (arith, c .before .before .before .before .before .before .pre .0, c .before .before .before .before .before .before .pre .1)
+halted-requires c κs =
+    let pre = c .before .before .before .before .before .before .pre in
+    omega (arith, pre .0, pre .1)
 
 -- the window is over
 returns : tie.Need-returns
 unfolding wants stateOf Fits
 returns c =
-    λ k. rw (c .halted .ensures) (halts _ k _ _ is.User user refl refl (rw (c .before .before .o .given .1) at (c .before .before .before .before .clean-line .ensures)) (c .before .before .before .before .before .before .before .pre .1) tt)
+    let o-is = c .before .before .o .given .1 in
+    let after-clean-line = c .before .before .before .before in
+    let clean-line-ensures = after-clean-line .clean-line .ensures in
+    let start = after-clean-line .before .before .before in
+    λ k. rw (c .halted .ensures) (halts _ k _ _ is.User user refl refl (rw o-is at clean-line-ensures) (start .pre .1) tt)
 
 -- ---- the line is listed, or the table is full
 returns-2 : tie.Need-returns-2
@@ -50,7 +56,8 @@ returns-2 c =
     let r = noted .note .result in
     λ k.
     rw (c .onward .ensures)
-    (leads (piece-of user (line .line .ends) (line .passes) (user-by _ (line .line))) k _ _ r (noted .note .last .0) is.Password (noted .note .ensures) (record { is = refl; fits = tt }))
+    (leads (piece-of user (line .line .ends) (line .passes) (user-by _ (line .line))) k _ _ r (noted .note .last .0) is.Password (noted .note .ensures)
+    (record { is = refl; fits = tt }))
 
 pub user-spec : {M : Type 1} → statement M
 user-spec =

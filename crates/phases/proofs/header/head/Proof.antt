@@ -61,11 +61,20 @@ same-length-2 c = c .before .before .before .before .before .loop .inv .long
 
 -- or it is refused: it begins before the limit
 halted-requires : tie.Need-halted-requires Inv-loop μ-loop
-halted-requires c κs = omega (arith, c .before .before .before .before .loop .inv .came .within, c .before .before .before .before .before .before .before .before .pre .0)
+halted-requires c κs =
+    let after-loop = c .before .before .before .before in
+    let loop-inv = after-loop .loop .inv in
+    let start = after-loop .before .before .before .before in
+    omega (arith, loop-inv .came .within, start .pre .0)
 
 -- the window is over
 returns : tie.Need-returns Inv-loop μ-loop
-returns c = head-halts (c .before .before .before .before .before .loop .inv) (rw (c .before .before .o .given .1) at (c .before .before .before .before .line .ensures)) (c .halted .ensures)
+returns c =
+    let o-is = c .before .before .o .given .1 in
+    let after-line = c .before .before .before .before in
+    let line-ensures = after-line .line .ensures in
+    let loop-inv = after-line .before .loop .inv in
+    head-halts loop-inv (rw o-is at line-ensures) (c .halted .ensures)
 
 -- ---- a line's event
 add-note : tie.Need-add-note Inv-loop μ-loop
@@ -132,8 +141,9 @@ same-length-5 c = loop-of (next-line (blank-next (c .before .before .before .bef
 -- the table is as long as it was
 same-length-6 : tie.Need-same-length-6 Inv-loop μ-loop
 same-length-6 c =
-    let next = blank-next (c .before .before .before .before .before .before) in
-    c .before .before .before .behind .kept .1 .1 .1 .1 .1 .0 ∙ next .before .before .before .before .note .kept .0 ∙ loop-of (next-line next) .loop .inv .long
+    let behind-kept = c .before .before .before .behind .kept in
+    let next = blank-next (c .before .before .before .before .before .before) in behind-kept .1 .1 .1 .1 .1 .0 ∙ next .before .before .before .before .note .kept .0 ∙ loop-of
+    (next-line next) .loop .inv .long
 
 -- what is behind it begins, or the table is full
 returns-3 : tie.Need-returns-3 Inv-loop μ-loop

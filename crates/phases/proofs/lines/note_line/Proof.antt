@@ -32,11 +32,18 @@ note-requires c κs =
 
 -- ---- no line is finished, or it is refused: it begins before the limit
 halted-requires : tie.Need-halted-requires
-halted-requires c κs = omega (arith, c .before .before .before .before .before .before .pre .0, c .before .before .before .before .before .before .pre .1)
+halted-requires c κs =
+    let pre = c .before .before .before .before .before .before .pre in
+    omega (arith, pre .0, pre .1)
 
 -- the window is over
 returns : tie.Need-returns
-returns c = lined-halts (rw (c .before .before .o .given .1) at (c .before .before .before .before .clean-line .ensures)) (c .before .before .before .before .before .before .before .pre .1) (c .halted .ensures)
+returns c =
+    let o-is = c .before .before .o .given .1 in
+    let after-clean-line = c .before .before .before .before in
+    let clean-line-ensures = after-clean-line .clean-line .ensures in
+    let start = after-clean-line .before .before .before in
+    lined-halts (rw o-is at clean-line-ensures) (start .pre .1) (c .halted .ensures)
 
 -- the table is full: the session is over
 returns-2 : tie.Need-returns-2

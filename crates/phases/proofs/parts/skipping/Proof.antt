@@ -42,7 +42,11 @@ line-requires c κs = c .loop .inv [] .came .within
 
 -- no line is finished, or it is refused: it begins before the limit
 halted-requires : tie.Need-halted-requires Inv-loop μ-loop
-halted-requires c κs = omega (arith, c .before .before .before .before .loop .inv [] .came .within, c .before .before .before .before .before .before .before .before .pre .0)
+halted-requires c κs =
+    let after-loop = c .before .before .before .before in
+    let loop-inv = after-loop .loop .inv in
+    let start = after-loop .before .before .before .before in
+    omega (arith, loop-inv [] .came .within, start .pre .0)
 
 -- the window is over
 returns : tie.Need-returns Inv-loop μ-loop

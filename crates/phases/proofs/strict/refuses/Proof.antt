@@ -12,7 +12,7 @@ use Rattle.phases.proofs.strict.refuses.Tie as tie
 -- with the setting, a line that does not end in CRLF does
 returns : tie.Need-returns
 unfolding isBare
-returns c = rw (c .before .before .before .if1 .taken) (ap not (c .ends-with .ensures) ∙ sym (and-on _))
+returns c = rw (c .before .before .if1 .taken) (ap not (c .ends-in-crlf .ensures) ∙ sym (and-on _))
 
 -- without it none does
 returns-2 : tie.Need-returns-2
@@ -22,7 +22,6 @@ pub refuses-spec : {M : Type 1} → statement M
 refuses-spec =
     tie.close
     (tie.spec
-    (λ c. search needs)
     (λ c. search needs)
     (λ c. search needs)
     (λ c. search needs)
