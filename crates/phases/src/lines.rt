@@ -146,7 +146,7 @@ pub fn commands(
     }
 }
 
-// A clean line, listed. The phase, which lists each of its lines, is left where none is finished, or where the table is full.
+// A clean line, listed. The phase, which lists each of its lines, is left where none is finished, or it is refused, or the table is full.
 fn note_line(
     settings: Settings,
     w: &[u8],

@@ -1,5 +1,5 @@
 -- Sessions that may be cut anywhere: request W2. A session stands where a read of document 01 begins, or where a part of a preamble, a content or a sized body
--- is taken; all else is document 01's. Assumes nothing.
+-- is taken; all else is document 01's, strict where that was chosen (W6). Assumes nothing.
 use mathlib.Core.Bool.{Bool, true, cond}
 use mathlib.Core.List.{List, []}
 use mathlib.Core.Option.{Option, none, some}

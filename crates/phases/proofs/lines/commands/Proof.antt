@@ -27,7 +27,7 @@ loop-holds c = not-yet (c .before .before .pre .1)
 note-line-requires : tie.Need-note-line-requires Inv-loop μ-loop
 note-line-requires c κs = (c .before .before .before .before .pre .0, c .before .loop .inv .came .within)
 
--- no line is finished, or the table is full
+-- no line is finished, or it is refused, or the table is full
 returns : tie.Need-returns Inv-loop μ-loop
 returns c =
     let called = c .before .before .before .before .before in
