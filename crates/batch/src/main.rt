@@ -1,6 +1,8 @@
 // Lists every case of a batch file on standard input (oracle/README.md, 'Formats') in the oracle's own form.
 // A line of words, which the oracle never writes, says that a number behind the events was written, or that a record is broken, cut
 // or too large; behind one of these the run ends.
+#![tactic(auto)]
+
 ghost use Rattle.std.specs.Prelude.{◌*◌, ◌≤◌, length};
 ghost use Rattle.events.specs.Table.{final};
 ghost use Rattle.batch.specs.Batch.{Shows, ShowsOne, OfInput, OfRecord, last, listed, said_of};

@@ -1,4 +1,6 @@
 // Records of the oracle's files (oracle/README.md, 'Formats'), and a pattern that shows which numbers of a table were written.
+#![tactic(auto)]
+
 ghost use Rattle.std.specs.Prelude.{◌≡◌, ◌+◌, ◌≤◌, ◌<◌, length, replicate};
 ghost use Rattle.cases.specs.Cases.{two, four, head_of, sides_of, guess_of, pattern, only, same_numbers};
 

@@ -1,5 +1,7 @@
 // Byte classes: one table of 256 entries, each a set of six marks.
 // A byte above 127 has no mark.
+#![tactic(auto)]
+
 ghost use Rattle.std.specs.Prelude.{◌≡◌};
 ghost use Rattle.classes.specs.Classes.{Marked, is_white, is_blank, is_pop_white, is_digit, is_letter, is_upper, upper_of};
 

@@ -1,6 +1,8 @@
 // Lists every case of a file of cut cases on standard input (oracle/README.md, 'Formats') in the oracle's own form: a line for each window, then the events.
 // A line of words, which the oracle never writes, says that a number behind the events was written, or that a record is broken, cut or too large;
 // behind one of these the run ends.
+#![tactic(auto)]
+
 ghost use Rattle.std.specs.Prelude.{◌+◌, ◌*◌, ◌≤◌, length};
 ghost use Rattle.cuts.specs.Cuts.{size, text_in};
 

@@ -1,5 +1,7 @@
 // Which way a line runs, guessed from both ports and each side's first payload. Ports `dir_confirm` of smtp.rs, pop3.rs and imap.rs, and `clt_cmd`.
 // Answers as given, swapped, unknown, or that the protocol is another.
+#![tactic(auto)]
+
 ghost use Rattle.std.specs.Prelude.{◌≡◌, ◌||◌, ℕ, ◌≤◌, ◌<◌, length};
 ghost use Rattle.classes.specs.Classes.{is_letter, is_digit};
 ghost use Rattle.direction.specs.Direction.{guess_number, side, guess, confirm, port_of, by_payload, greets, commands, clt_cmd, command_at, is_tag, is_tag_byte};

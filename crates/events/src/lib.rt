@@ -1,4 +1,6 @@
 // The event table: a lent run of 32-bit numbers, four for each event, filled from the front. Stands for the Rust's callbacks.
+#![tactic(auto)]
+
 ghost use Rattle.std.specs.Prelude.{◌≡◌, ◌≤◌};
 ghost use Rattle.events.specs.Events.{encoding_number, ev, result_number};
 ghost use Rattle.events.specs.Table.{Puts};

@@ -1,4 +1,6 @@
 // A session's record as numbers, for callers that know no enum: there and back.
+#![tactic(auto)]
+
 ghost use Rattle.std.specs.Prelude.{◌≡◌, false};
 ghost use Rattle.flat.specs.Flats.{flat, plain, flat_of, numbers_of, row, row_by, bit, mail_of, encoding_of, outcome_of, fields_of, heard_of, phase_by, phase_of, settings_of};
 

@@ -1,4 +1,6 @@
 // Reading bytes so that the input's end and a failed read are told apart. A read that a signal breaks off has failed.
+#![tactic(auto)]
+
 ghost use Rattle.std.specs.Prelude.{length};
 ghost use Rattle.input.specs.Input.{within};
 

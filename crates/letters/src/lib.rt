@@ -1,4 +1,6 @@
 // The entries by their letters: S SMTP client, s SMTP server, P POP3 server, I IMAP client.
+#![tactic(auto)]
+
 ghost use Rattle.std.specs.Prelude.{◌≡◌};
 ghost use Rattle.letters.specs.Letters.{entry_of};
 

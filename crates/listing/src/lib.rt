@@ -1,4 +1,6 @@
 // The text of a listing, put into a lent run of bytes: a line `kind offset length encoding` for each event, then `result place count`.
+#![tactic(auto)]
+
 ghost use Rattle.std.specs.Prelude.{[], ◌∷◌, ◌+◌, ◌*◌, ◌≤◌, length};
 ghost use Rattle.events.specs.Events.{numbers, result_number};
 ghost use Rattle.events.specs.Table.{final_of, event_at};

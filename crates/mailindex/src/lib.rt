@@ -1,4 +1,6 @@
 // Sessions by windows, the four entries and the direction guess for C and Rust: include/mailindex.h documents each number.
+#![tactic(auto)]
+
 ghost use Rattle.std.specs.Prelude.{◌≡◌};
 ghost use Rattle.direction.specs.Direction.{guess, guess_number};
 ghost use Rattle.rules.specs.Sessions.{smtp_client, smtp_server, pop3_server, imap_client};

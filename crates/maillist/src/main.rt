@@ -1,5 +1,7 @@
 // Lists a session from standard input: its letter (S, s, P or I), then at most 3,072 bytes; prints `bad` or `long` where it is not so.
 // Where standard input cannot be read to its end nothing is listed: a line on standard error says why.
+#![tactic(auto)]
+
 ghost use Rattle.std.specs.Prelude.{◌≡◌, ◌≤◌, length, replicate};
 ghost use Rattle.maillist.specs.Maillist.{Prints, printed, listed};
 

@@ -1,5 +1,7 @@
 // The phases of a session by windows: each reads on where a window left it, up to the window's end or to another phase. One function for each group of phases,
 // and a loop over phases above them. `w` is a window, `base` the session's place of its first byte, p a place in it; `kept` holds copies of the open boundaries.
+#![tactic(auto)]
+
 ghost use Rattle.std.specs.Prelude.{◌≡◌, cond, ◌+◌, ◌≤◌, eqb, length};
 ghost use Rattle.events.specs.Events.{result_number};
 ghost use Rattle.rules.specs.Sessions.{limit};

@@ -1,1 +1,2 @@
 // Promises over all sessions: theorems alone, no code. docs/THEOREMS.md says which demand each carries.
+#![tactic(auto)]

@@ -1,5 +1,7 @@
 // Reading: lines, delimiters and words in a part of the buffer. Stands for `PktStrm` and its readers.
 // A read answers the place behind what it reads, or that it needs bytes beyond the end.
+#![tactic(auto)]
+
 ghost use Rattle.std.specs.Prelude.{◌≡◌, ◌&&◌, [], ◌∷◌, ◌+◌, ◌<◌, ◌≤◌, length, take, drop};
 ghost use Rattle.reading.specs.Blocks.{dashed, Passed, Next, Last, last_stands, Matched};
 ghost use Rattle.reading.specs.Bytes.{starts_with, same, ends_with, raised, first, first_place, found, holds, stands, contains};

@@ -1,4 +1,6 @@
 // Reads and events: what every walk and every phase is made of. Stands for the readers of `PktStrm` and the callbacks.
+#![tactic(auto)]
+
 ghost use Rattle.std.specs.Prelude.{◌≡◌, ◌+◌, ◌-◌, ◌≤◌, ◌<◌, [], ◌∷◌, length};
 ghost use Rattle.events.specs.Events.{ev};
 ghost use Rattle.reading.specs.Reading.{a_line, bytes};

@@ -1,6 +1,8 @@
 // Replays the oracle's stored answers, the file cases.bin (oracle/README.md, 'Formats'): compares result, place, count, every event and
 // the numbers of the table behind them. Prints `entry result count` for each entry and stored result, then how many cases there were and
 // how many differ; `broken` before that where a record cannot be read.
+#![tactic(auto)]
+
 ghost use Rattle.std.specs.Prelude.{◌≡◌, ◌*◌, ◌≤◌, length};
 ghost use Rattle.events.specs.Table.{final_of};
 ghost use Rattle.replay.specs.Replay.{agree, judge, OrBroken, OfDirection, OfSession, OfRecord, OfFile, index_of, letter_of, group_of, counted_in};

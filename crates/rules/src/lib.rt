@@ -1,4 +1,5 @@
 // Types that the definition of the sessions shares with the code. What the rules are stands in specs/.
+#![tactic(auto)]
 
 // Which side of which protocol a session's bytes are.
 #[derive(Drop)]

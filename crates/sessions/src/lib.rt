@@ -1,4 +1,6 @@
 // The four entries: a session's bytes and a lent table in, the events into the table, result, place and count out.
+#![tactic(auto)]
+
 ghost use Rattle.std.specs.Prelude.{◌≡◌};
 ghost use Rattle.events.specs.Table.{final_of};
 ghost use Rattle.rules.specs.Sessions.{answer_of, smtp_client, smtp_server, pop3_server, imap_client};

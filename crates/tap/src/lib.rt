@@ -1,4 +1,6 @@
 // Sessions by windows: a session is begun once and shown its bytes as they come; the caller shows the untaken ones again at the next window's front.
+#![tactic(auto)]
+
 ghost use Rattle.std.specs.Prelude.{◌≡◌, ◌&&◌, List, ℕ, ◌+◌, ◌≤◌, leb};
 ghost use Rattle.events.specs.Table.{final_of};
 ghost use Rattle.rules.specs.Sessions.{limit};

@@ -1,4 +1,6 @@
 // Characters in bytes: UTF-8 as RFC 3629 has it, and white space among characters. Stands for Rust's `str` and `char::is_whitespace`.
+#![tactic(auto)]
+
 ghost use Rattle.std.specs.Prelude.{◌≡◌, cond, ◌+◌, ◌≤◌, ◌<◌};
 ghost use Rattle.utf8.specs.Utf8.{between, octets_of, is_scalar, is_space, is_tail, lawful, sequence, opened, character, characters, is_utf8, dark_lead, dark_end};
 
