@@ -7,14 +7,14 @@ ghost use Rattle.classes.specs.Classes.{is_letter, is_digit};
 ghost use Rattle.direction.specs.Direction.{guess_number, side, guess, confirm, port_of, by_payload, greets, commands, clt_cmd, command_at, is_tag, is_tag_byte};
 ghost use Rattle.reading.specs.declared.Place.TheVariants.{At};
 
-#[derive(Drop)]
+#[derive(Clone, Copy)]
 pub enum Protocol {
     Smtp,
     Pop3,
     Imap,
 }
 
-#[derive(Drop)]
+#[derive(Clone, Copy)]
 pub enum Guess {
     AsGiven,
     Swapped,

@@ -31,7 +31,7 @@ pub const SENDER: u32 = 11;
 
 pub const RECIPIENT: u32 = 12;
 
-#[derive(Drop)]
+#[derive(Clone, Copy)]
 pub enum Encoding {
     Unsaid,
     Bit7,
@@ -42,7 +42,7 @@ pub enum Encoding {
     Unrecognised,
 }
 
-#[derive(Drop)]
+#[derive(Clone, Copy)]
 pub struct Event {
     pub kind: u32,
     pub offset: u32,
@@ -51,19 +51,19 @@ pub struct Event {
 }
 
 // What is known of the events written so far.
-#[derive(Drop)]
+#[derive(Clone, Copy)]
 pub struct Log {
     pub count: usize,
 }
 
-#[derive(Drop)]
+#[derive(Clone, Copy)]
 pub enum Listed {
     Written(Log),
     Full,
 }
 
 // How a session ended, in the order of document 01's numbers.
-#[derive(Drop)]
+#[derive(Clone, Copy)]
 pub enum Outcome {
     Done,
     Incomplete,
@@ -81,7 +81,7 @@ pub enum Outcome {
     NoSession,
 }
 
-#[derive(Drop)]
+#[derive(Clone, Copy)]
 pub struct Answer {
     pub result: Outcome,
     pub place: usize,

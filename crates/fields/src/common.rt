@@ -22,13 +22,13 @@ const FOLDED_BARE: usize = 1 + BARE_NAME;
 const FOLDED_QUOTED: usize = 1 + QUOTED_NAME;
 
 // A boundary: its place in the part, and its length.
-#[derive(Drop)]
+#[derive(Clone, Copy)]
 pub enum Bdry {
     Unsupplied,
     Of(usize, usize),
 }
 
-#[derive(Drop)]
+#[derive(Clone, Copy)]
 pub enum ContentType {
     Other,
     Plain,
@@ -36,7 +36,7 @@ pub enum ContentType {
 }
 
 // What a header's lines have said so far.
-#[derive(Drop)]
+#[derive(Clone, Copy)]
 pub struct Scan {
     pub encoding: Encoding,
     pub seen: bool,

@@ -5,7 +5,7 @@ ghost use Rattle.fields.specs.Runs.{runs, lead, last_place, worth, up_to};
 
 use reading::Place;
 
-#[derive(Drop)]
+#[derive(Clone, Copy)]
 pub enum Run {
     Spaces,
     Blanks,
@@ -15,7 +15,7 @@ pub enum Run {
     Bare,
 }
 
-#[derive(Drop)]
+#[derive(Clone, Copy)]
 pub enum Number {
     Worth(u64),
     TooBig,

@@ -10,7 +10,7 @@ const FROM_FIELD: usize = 12;
 const TO_FIELD: usize = 10;
 
 // What the second line is.
-#[derive(Drop)]
+#[derive(Clone, Copy)]
 pub enum Second {
     StartTls,
     AuthLogin,
@@ -19,7 +19,7 @@ pub enum Second {
 }
 
 // An address: its place in the line, and its length.
-#[derive(Drop)]
+#[derive(Clone, Copy)]
 pub enum Address {
     Given(usize, usize),
     Missing,

@@ -9,7 +9,7 @@ use phases::{Heard, Phase};
 use rules::{Mail, Settings};
 
 // A phase by its number, with all that a phase can hold; what it does not hold is 0.
-#[derive(Drop)]
+#[derive(Clone, Copy)]
 pub struct Flat {
     pub tag: u64,
     pub mail: Mail,

@@ -12,7 +12,7 @@ use rules::{Entry, Settings};
 const VERSION: u32 = 4;
 
 // The entry and the settings that a session's choices name.
-#[derive(Drop)]
+#[derive(Clone, Copy)]
 pub enum Chosen {
     Of(Entry, Settings),
     None,

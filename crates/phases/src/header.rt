@@ -17,7 +17,7 @@ use rules::{Mail, Settings};
 const LEVELS: usize = 8;
 
 // The phase that follows, and whether its events are written.
-#[derive(Drop)]
+#[derive(Clone, Copy)]
 pub struct Begun {
     pub phase: Phase,
     pub noted: Noted,

@@ -20,7 +20,7 @@ mod strict;
 mod turns;
 
 // What is read next, with what that needs to know: a mail, the literal's rest, the level, where a body began. Where a session is over, its result and place.
-#[derive(Drop)]
+#[derive(Clone, Copy)]
 pub enum Phase {
     Hello,
     Second,
@@ -47,7 +47,7 @@ pub enum Phase {
 }
 
 // What a header's lines have said so far; a boundary that they supplied stands behind the open ones.
-#[derive(Drop)]
+#[derive(Clone, Copy)]
 pub struct Heard {
     pub encoding: Encoding,
     pub seen: bool,
@@ -55,7 +55,7 @@ pub struct Heard {
 }
 
 // Where a window has come to: its phase, and how many of its bytes are taken.
-#[derive(Drop)]
+#[derive(Clone, Copy)]
 pub struct Spot {
     pub phase: Phase,
     pub taken: usize,
@@ -63,7 +63,7 @@ pub struct Spot {
 }
 
 // On to another phase, by a byte at least; or the window is over.
-#[derive(Drop)]
+#[derive(Clone, Copy)]
 pub enum Turn {
     On(Spot),
     Stop(Spot),

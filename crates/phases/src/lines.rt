@@ -14,7 +14,7 @@ use reads::{Clean, Noted, Read, Two, note, two_bytes};
 use rules::{Mail, Settings};
 
 // A line listed clean: where its clean part ends, and where the line does; or the phase is left.
-#[derive(Drop)]
+#[derive(Clone, Copy)]
 pub enum Lined {
     To(usize, usize, Log),
     Left(Turn),

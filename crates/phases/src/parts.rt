@@ -15,7 +15,7 @@ use reads::{Read, Two, hold, two_bytes};
 use rules::{Mail, Settings};
 
 // Up to the place behind a delimiter; or up to where no line is finished, and whether a delimiter may stand there.
-#[derive(Drop)]
+#[derive(Clone, Copy)]
 pub enum Sought {
     Found(usize),
     Waits(usize, bool),

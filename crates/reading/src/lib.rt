@@ -12,7 +12,7 @@ const BLOCK: usize = 16;
 
 const WIDE: usize = 64;
 
-#[derive(Drop)]
+#[derive(Clone, Copy)]
 pub enum Place {
     At(usize),
     Nowhere,

@@ -13,14 +13,14 @@ use reading::Place;
 use rules::Mail;
 
 // A read: the place behind it, or how the session stops where the read began.
-#[derive(Drop)]
+#[derive(Clone, Copy)]
 pub enum Read {
     To(usize),
     Stop(Outcome),
 }
 
 // The two bytes behind a delimiter or a literal.
-#[derive(Drop)]
+#[derive(Clone, Copy)]
 pub enum Two {
     Crlf,
     Hyphens,
@@ -29,21 +29,21 @@ pub enum Two {
 }
 
 // A line and its clean part: where that ends, and where the line does.
-#[derive(Drop)]
+#[derive(Clone, Copy)]
 pub enum Clean {
     To(usize, usize),
     Stop(Outcome),
 }
 
 // Where a session stops, and what its writer knows then.
-#[derive(Drop)]
+#[derive(Clone, Copy)]
 pub struct Stop {
     pub result: Outcome,
     pub place: usize,
     pub log: Log,
 }
 
-#[derive(Drop)]
+#[derive(Clone, Copy)]
 pub enum Noted {
     Written(Log),
     Stopped(Stop),

@@ -2,7 +2,7 @@
 #![tactic(auto)]
 
 // Which side of which protocol a session's bytes are.
-#[derive(Drop)]
+#[derive(Clone, Copy)]
 pub enum Entry {
     SmtpClient,
     SmtpServer,
@@ -11,7 +11,7 @@ pub enum Entry {
 }
 
 // Whose mail a walk is in; of an IMAP client's the literal's size, and where the mail's header began.
-#[derive(Drop)]
+#[derive(Clone, Copy)]
 pub enum Mail {
     Smtp,
     Pop3,
@@ -19,7 +19,7 @@ pub enum Mail {
 }
 
 // What is chosen where a session by windows begins, beside its entry: with `strict`, a line that does not end in CRLF ends the session.
-#[derive(Drop)]
+#[derive(Clone, Copy)]
 pub struct Settings {
     pub strict: bool,
 }

@@ -19,7 +19,7 @@ use rules::Mail;
 const INNER_LEVELS: usize = 7;
 
 // The scan, the place behind the blank line in the part that was handed over; or the session's end.
-#[derive(Drop)]
+#[derive(Clone, Copy)]
 pub enum Headed {
     Went(Scan, usize, Log),
     Stopped(Stop),

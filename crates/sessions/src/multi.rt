@@ -19,7 +19,7 @@ use reads::{
 use rules::Mail;
 
 // A part that was read: another follows, or the multipart was closed; or the session's end.
-#[derive(Drop)]
+#[derive(Clone, Copy)]
 pub enum Parted {
     Next(usize, Log),
     Closed(usize, Log),

@@ -12,21 +12,21 @@ use reading::Place;
 use reads::{Clean, Noted, Read, Stop, clean_line, note, stopped};
 
 // A boundary's place in the buffer, and its length.
-#[derive(Drop)]
+#[derive(Clone, Copy)]
 pub struct Boundary {
     pub at: usize,
     pub len: usize,
 }
 
 // A line listed clean: where its clean part ends, and where the line does; or the session's end.
-#[derive(Drop)]
+#[derive(Clone, Copy)]
 pub enum Lined {
     To(usize, usize, Log),
     Stopped(Stop),
 }
 
 // A walk that went on to a place, or the session's end.
-#[derive(Drop)]
+#[derive(Clone, Copy)]
 pub enum Walk {
     Went(usize, Log),
     Stopped(Stop),

@@ -22,7 +22,7 @@ const SLOT: usize = 72;
 const LONGEST: u8 = 71;
 
 // What is known between windows: what was chosen at the start, the phase, how many bytes are taken, what the writer knows, and copies of the open boundaries.
-#[derive(Drop)]
+#[derive(Clone, Copy)]
 pub struct Session {
     pub settings: Settings,
     pub phase: Phase,
@@ -32,7 +32,7 @@ pub struct Session {
 }
 
 // The session then, its answer, and how many bytes of the window were taken.
-#[derive(Drop)]
+#[derive(Clone, Copy)]
 pub struct Shown {
     pub session: Session,
     pub answer: Answer,
@@ -40,7 +40,7 @@ pub struct Shown {
 }
 
 // The same but for the settings, which stay, and the copies.
-#[derive(Drop)]
+#[derive(Clone, Copy)]
 pub struct Seen {
     pub phase: Phase,
     pub at: usize,

@@ -4,7 +4,7 @@
 ghost use Rattle.std.specs.Prelude.{◌≡◌, cond, ◌+◌, ◌≤◌, ◌<◌};
 ghost use Rattle.utf8.specs.Utf8.{between, octets_of, is_scalar, is_space, is_tail, lawful, sequence, opened, character, characters, is_utf8, dark_lead, dark_end};
 
-#[derive(Drop)]
+#[derive(Clone, Copy)]
 pub enum Decoded {
     Of(u32),
     Broken,

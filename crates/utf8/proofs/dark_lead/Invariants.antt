@@ -1,0 +1,12 @@
+-- `utf8::dark_lead` meets its contract. The loop's invariant: no character up to `at` is white space. Assumes nothing.
+use Prim.Native.Nat.{◌-◌}
+use lib.ListN.{length}
+use Rattle.utf8.specs.Utf8.{dark_lead}
+use Rattle.utf8.proofs.Walks.{Walked}
+use Rattle.utf8.proofs.dark_lead.Given as goal
+
+abbrev pub invariant-loop-at : goal.invariant-loop-at
+invariant-loop-at l = Walked dark_lead l.l l.at
+
+abbrev pub decreases-loop-at : goal.decreases-loop-at
+decreases-loop-at l = length l.l - l.at
