@@ -27,14 +27,17 @@ unsaid : (c : Joined-server_held) (n m : ℕ) →
     Unsaid a.p (side n a.client_held a.client.now) (side m a.server_held a.server.now)
 unsaid c n m = record {
   some_held = elim c.if-not-client_held.branch [
-    then-not-client_held+else-not-server_held w ↦ rw (w.if-not-client_held.true, w.if-not-server_held.false)
-    | else-not-client_held w ↦ rw w.if-not-client_held.false ];
+    | then-not-client_held+else-not-server_held w ↦ rw (w.if-not-client_held.true, w.if-not-server_held.false)
+    | else-not-client_held w ↦ rw w.if-not-client_held.false
+  ];
   no_greeting = elim c.if-server_held.branch [
-    then-server_held+else-greets+else-commands w ↦ rw (w.if-server_held.true, sym w.greets.ensures ∙ w.if-greets.false)
-    | else-server_held w ↦ rw w.if-server_held.false ];
+    | then-server_held+else-greets+else-commands w ↦ rw (w.if-server_held.true, sym w.greets.ensures ∙ w.if-greets.false)
+    | else-server_held w ↦ rw w.if-server_held.false
+  ];
   no_command = elim c.if-server_held.branch [
-    then-server_held+else-greets+else-commands w ↦ rw (w.if-server_held.true, sym w.commands.ensures ∙ w.if-commands.false)
-    | else-server_held w ↦ rw w.if-server_held.false ];
+    | then-server_held+else-greets+else-commands w ↦ rw (w.if-server_held.true, sym w.commands.ensures ∙ w.if-commands.false)
+    | else-server_held w ↦ rw w.if-server_held.false
+  ];
 }
 
 -- the client side's greets

@@ -14,6 +14,7 @@ returns-in_default c = let others = c.before.in_default.in_default-own.rest in
 pub returns : goal.returns
 unfolding guess
 returns c = elim c.match-protocol.branch [
-    in-1 w ↦ rw w.in-1.is (rw w.p-is at c.confirm.ensures)
-    | in-2 w ↦ rw w.in-2.is (rw w.p-is at c.confirm.ensures)
-    | in-3 w ↦ rw w.in-3.is (rw w.p-is at c.confirm.ensures) ]
+  | in-1 w ↦ rw w.in-1.is (rw w.p-is at c.confirm.ensures)
+  | in-2 w ↦ rw w.in-2.is (rw w.p-is at c.confirm.ensures)
+  | in-3 w ↦ rw w.in-3.is (rw w.p-is at c.confirm.ensures)
+]

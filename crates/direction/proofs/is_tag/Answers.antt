@@ -1,5 +1,4 @@
 use mathlib.Core.Path.{sym, ◌∙◌}
-use Prim.Native.Nat.{◌-◌}
 use Rattle.direction.proofs.Tags.{tagged_none_yet, tagged_all, tagged_not, tagged_on}
 use Rattle.direction.proofs.is_tag.Goals as goal
 

@@ -1,5 +1,5 @@
 use mathlib.Core.Path.{◌≡◌, sym, ap, ◌∙◌}
-use Prim.Native.Nat.{◌-◌, ◌<◌}
+use Prim.Native.Nat.{◌<◌}
 use lib.ListN.{length}
 use Rattle.reading.specs.Bytes.{raised, stands, found, contains}
 use Rattle.reading.proofs.Places.{sought_none_yet, sought_here, sought_on, sought_in_vain}

@@ -1,7 +1,7 @@
 use mathlib.Core.Path.{◌≡◌, sym, ◌∙◌}
 use mathlib.Core.Bool.{true, false}
 use mathlib.Core.List.{[]}
-use Prim.Native.Nat.{◌+◌, ◌-◌, ◌≤◌}
+use Prim.Native.Nat.{◌+◌, ◌≤◌}
 use native.Mathlib.Omega.{arith}
 use lib.ListN.{length}
 use Rattle.reading.specs.Reading.{delimits}
@@ -28,14 +28,15 @@ no-delimiter : (c : Joined-opens) →
     delimits c.args.b.now c.args.s.now c.places.p ≡ false
 no-delimiter c =
     elim c.if-opens.branch [
-    -- the region ends before the boundary does
-    then-opens+then-last_stands+else-b-k+then-s-p-2 w ↦ behind_short w.loop-k.invariant w.if-b-k.false w.if-s-p-2.true
-    -- a byte differs
-    | then-opens+then-last_stands+else-b-k+else-s-p-2+then-s-p-3 w ↦ behind_differs w.loop-k.invariant w.if-b-k.false w.if-s-p-2.false w.if-s-p-3.true
-    -- the last byte does not stand where it would
-    | then-opens+else-last_stands w ↦ last_not _ _ _ (sym w.last_stands.ensures ∙ w.if-last_stands.false)
-    -- nothing opens at p
-    | else-opens w ↦ opens_not _ _ _ (sym c.opens.ensures ∙ w.if-opens.false) ]
+      -- the region ends before the boundary does
+      | then-opens+then-last_stands+else-b-k+then-s-p-2 w ↦ behind_short w.loop-k.invariant w.if-b-k.false w.if-s-p-2.true
+      -- a byte differs
+      | then-opens+then-last_stands+else-b-k+else-s-p-2+then-s-p-3 w ↦ behind_differs w.loop-k.invariant w.if-b-k.false w.if-s-p-2.false w.if-s-p-3.true
+      -- the last byte does not stand where it would
+      | then-opens+else-last_stands w ↦ last_not _ _ _ (sym w.last_stands.ensures ∙ w.if-last_stands.false)
+      -- nothing opens at p
+      | else-opens w ↦ opens_not _ _ _ (sym c.opens.ensures ∙ w.if-opens.false)
+    ]
 
 -- ---- two hyphens at p, and the boundary's last byte where it would stand
 pub overflow_add-p : goal.overflow_add-p

@@ -1,5 +1,4 @@
 use mathlib.Core.Path.{◌≡◌, sym, ap, ◌∙◌}
-use Prim.Native.Nat.{◌-◌}
 use Rattle.reading.specs.Bytes.{starts_with, stands}
 use Rattle.reading.proofs.Places.{sought_none_yet, sought_here, sought_on, sought_in_vain}
 use Rattle.reading.proofs.Words.{rest_is}

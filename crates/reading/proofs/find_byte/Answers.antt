@@ -1,4 +1,3 @@
-use Prim.Native.Nat.{◌-◌}
 use borrow.Author.Tests.{eq-eqb, ne_eqb}
 use Rattle.reading.specs.Bytes.{holds}
 use Rattle.reading.proofs.Passing.{sought_passed}

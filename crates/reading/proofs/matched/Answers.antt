@@ -1,9 +1,8 @@
 use mathlib.Core.Path.{sym, ◌∙◌}
-use Prim.Native.Nat.{◌+◌, ◌-◌, ◌≤◌}
+use Prim.Native.Nat.{◌+◌, ◌≤◌}
 use native.Mathlib.Omega.{arith}
 use lib.ListN.{length, length-drop}
 use lib.Seq.{drop-drop}
-use borrow.Author.Tests.{not-false}
 use Rattle.reading.proofs.Matching.{matched_none_yet, matched_block}
 use Rattle.reading.proofs.matched.Goals.{At-loop-k, In-loop-k}
 use Rattle.reading.proofs.matched.Goals as goal

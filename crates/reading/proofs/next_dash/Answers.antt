@@ -1,4 +1,3 @@
-use Prim.Native.Nat.{◌-◌}
 use native.Mathlib.Omega.{arith}
 use Rattle.reading.proofs.Passing.{passed_on, passed_one, dash_here, dash_no_hyphen, dash_no_lf}
 use Rattle.reading.proofs.next_dash.Goals.{then-s-p-eq45+else-s-p-eq10, else-s-p-eq45}
@@ -30,10 +29,11 @@ returns-then-s-p-eq10 c = record { passed = c.loop-p.invariant; passes = λ h. d
 pub loop-p-preserved : goal.loop-p-preserved
 loop-p-preserved c = passed_one _ c.loop-p.invariant c.loop-p-test.true
     (elim c.if-s-p-eq45.branch [
-    -- the byte before the hyphen is no LF
-    then-s-p-eq45+else-s-p-eq10 w ↦ dash_no_lf _ _ w.if-s-p-eq10.false
-    -- no hyphen stands at p
-    | else-s-p-eq45 w ↦ dash_no_hyphen _ _ w.if-s-p-eq45.false ])
+      -- the byte before the hyphen is no LF
+      | then-s-p-eq45+else-s-p-eq10 w ↦ dash_no_lf _ _ w.if-s-p-eq10.false
+      -- no hyphen stands at p
+      | else-s-p-eq45 w ↦ dash_no_hyphen _ _ w.if-s-p-eq45.false
+    ])
 
 -- ---- the end
 pub returns : goal.returns

@@ -1,4 +1,3 @@
-use Prim.Native.Nat.{◌-◌}
 use Rattle.reading.proofs.Words.{compared_none_yet, compared_all, compared_short, compared_differs, compared_on}
 use Rattle.reading.proofs.starts_with.Goals as goal
 

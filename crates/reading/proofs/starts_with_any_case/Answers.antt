@@ -1,5 +1,4 @@
 use mathlib.Core.Path.{sym, ◌∙◌}
-use Prim.Native.Nat.{◌-◌}
 use Rattle.reading.proofs.Words.{raised_none_yet, raised_all, raised_short, raised_differs, raised_on}
 use Rattle.reading.proofs.starts_with_any_case.Goals as goal
 

@@ -1,5 +1,4 @@
 use mathlib.Core.Path.{sym, ap, ◌∙◌}
-use Prim.Native.Nat.{◌-◌}
 use native.Mathlib.Omega.{arith}
 use Rattle.utf8.specs.Utf8.{dark_lead}
 use Rattle.utf8.proofs.Characters.{octets_some, character_at, none_at}

@@ -1,5 +1,4 @@
 use mathlib.Core.Path.{sym, ◌∙◌}
-use Prim.Native.Nat.{◌-◌}
 use native.Mathlib.Omega.{arith}
 use Rattle.utf8.proofs.Characters.{octets_some, none_at}
 use Rattle.utf8.proofs.Walks.{walked_none_yet, walked_on, size_on, utf8_not, utf8_all}

@@ -2,7 +2,6 @@
 use mathlib.Core.Path.{◌≡◌, sym, ◌∙◌}
 use mathlib.Core.Bool.{true}
 use native.Mathlib.Omega.{arith}
-use borrow.Author.Tests.{not-true}
 use Rattle.fields.specs.Common.{by_boundary, content_type_ext, part}
 use Rattle.fields.specs.declared.common.Bdry.TheVariants.{Of}
 use Rattle.fields.proofs.Bdrys.{ext_room, says_ext, says_no_ext}

@@ -1,5 +1,4 @@
 -- `fields::imap::dark_end` meets its contract. The loop's invariant: the last dark byte of the first n is the line's last. Assumes nothing.
-use Prim.Native.Nat.{◌-◌}
 use Rattle.fields.specs.Imap.{dark}
 use Rattle.fields.proofs.Last.{Back}
 use Rattle.fields.proofs.imap.dark_end.Given as goal

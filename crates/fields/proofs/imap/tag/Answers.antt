@@ -1,5 +1,4 @@
 use mathlib.Core.Path.{sym, ◌∙◌}
-use Prim.Native.Nat.{◌-◌}
 use Rattle.fields.proofs.Texts.{tagged_none_yet, tagged_on, tagged_stop, tagged_all}
 use Rattle.fields.proofs.imap.tag.Goals as goal
 

@@ -1,5 +1,4 @@
 -- `fields::pop3::at_most` meets its contract. The loop's invariant: but for the digits that are left, the other is ahead by so much. Assumes nothing.
-use Prim.Native.Nat.{◌-◌}
 use Rattle.fields.proofs.Compared.{Ahead}
 use Rattle.fields.proofs.pop3.at_most.Given as goal
 

@@ -1,5 +1,5 @@
 use mathlib.Core.Path.{refl, sym, ap, ◌∙◌}
-use Prim.Native.Nat.{ℕ, ◌-◌}
+use Prim.Native.Nat.{ℕ}
 use lib.Dec.{leb}
 use Rattle.classes.specs.Classes.{is_digit}
 use Rattle.reading.proofs.Words.{rest_is, left_at}

@@ -1,4 +1,3 @@
-use Prim.Native.Nat.{◌-◌}
 use native.Mathlib.Omega.{arith}
 use Rattle.fields.proofs.Worth.{added_none_yet, added_on, added_over, added_all}
 use Rattle.fields.proofs.runs.decimal.Goals as goal

@@ -1,5 +1,4 @@
 use mathlib.Core.Path.{sym, ◌∙◌}
-use Prim.Native.Nat.{◌-◌}
 use Rattle.fields.proofs.Led.{led_none_yet, led_on, led_stop, led_all}
 use Rattle.fields.proofs.runs.leading.Goals as goal
 
