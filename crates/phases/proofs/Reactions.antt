@@ -26,7 +26,7 @@ use Rattle.reading.specs.Bytes.{starts_with, same}
 use Rattle.reading.specs.Reading.{a_line, bytes, crlf, clean, reach}
 use Rattle.reading.specs.Text.{text}
 use Rattle.reads.proofs.Laws.{clean_length, ends_at}
-use Rattle.reads.specs.Clauses.{Ends, Stops, Cleaned, Pair, NoPair, Stopped, Full, Notes}
+use Rattle.reads.specs.Clauses.{Ends, Cleaned, Pair, NoPair, Stopped, Full, Notes}
 use Rattle.reads.specs.declared.Noted.{Noted}
 use Rattle.reads.specs.declared.Noted.TheVariants as noted
 use Rattle.reads.specs.declared.Stop.{Stop}
@@ -50,7 +50,6 @@ use Rattle.phases.specs.Phasing.{CleanPasses, Halts, halted_of, state_of, Fits, 
 use Rattle.phases.specs.declared.Phase.{Phase}
 use Rattle.phases.specs.declared.Phase.TheVariants as is
 use Rattle.phases.specs.declared.Turn.{Turn}
-use Rattle.phases.specs.declared.Turn.TheVariants as turn
 use Rattle.phases.proofs.Turning.{to_end, piece_of, halts, leads_written, leads_full, leads_still, leads, Looped, looped_on, looped_leaves, looped_turn}
 
 -- ---- the first line

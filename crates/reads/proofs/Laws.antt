@@ -16,7 +16,7 @@ use Rattle.reading.proofs.Pieces.{reaches, got_reach, got_length}
 use Rattle.reading.proofs.Places.{at_same}
 use Rattle.reading.proofs.Words.{same_is}
 use Rattle.reading.specs.Bytes.{same}
-use Rattle.reading.specs.Reading.{Need, a_line, bytes, two, crlf, clean, short, reach, parted, fetch}
+use Rattle.reading.specs.Reading.{Need, a_line, bytes, two, crlf, clean, reach, parted, fetch}
 use Rattle.reading.specs.declared.Place.TheVariants.{At, Nowhere}
 use Rattle.rules.specs.Mail.{hyphens, last_line}
 use Rattle.rules.specs.declared.Mail.{Mail}

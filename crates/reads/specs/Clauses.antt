@@ -1,7 +1,7 @@
 -- What reads and events answer, whoever asks.
 -- Assumes nothing.
 use Rattle.std.specs.Prelude.{◌≡◌, false, List, ℕ, ◌+◌, ◌-◌, ◌≤◌, ◌<◌, length, drop}
-use Rattle.events.specs.Table.{Final, final, Poured, all, full, pour}
+use Rattle.events.specs.Table.{Final, final, all, full, pour}
 use Rattle.events.specs.declared.Event.{Event}
 use Rattle.events.specs.declared.Log.{Log}
 use Rattle.events.specs.declared.Outcome.{Outcome}

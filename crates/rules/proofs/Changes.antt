@@ -14,7 +14,6 @@ use Rattle.events.specs.Events.{body_line, sized_body, user, password}
 use Rattle.events.specs.declared.Event.{Event}
 use Rattle.reading.proofs.Places.{by_test}
 use Rattle.reading.proofs.Words.{both_true}
-use Rattle.reading.specs.Reading.{bytes}
 use Rattle.rules.specs.Secrecy.{inside, may_turn, may, Replaced}
 
 -- ---- tests

@@ -15,8 +15,7 @@ use Rattle.events.specs.declared.Log.{Log}
 use Rattle.reading.proofs.Alike.{got_cut}
 use Rattle.reading.proofs.Pieces.{got_splits, got_itself, got_alone}
 use Rattle.reading.proofs.Places.{by_test}
-use Rattle.reading.specs.Bytes.{same}
-use Rattle.reading.specs.Reading.{bytes, Got, got, short, fetch}
+use Rattle.reading.specs.Reading.{Got, got, short, fetch}
 use Rattle.rules.specs.Machine.{Ran, before}
 use Rattle.rules.specs.Phases.{Phase, State, reads, need}
 use Rattle.rules.specs.Secrecy.{inside, may_turn, may, Replaced, events_in, events_of}

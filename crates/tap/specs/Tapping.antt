@@ -15,7 +15,6 @@ use Rattle.rules.specs.declared.Entry.TheVariants.{SmtpClient, SmtpServer, Pop3S
 use Rattle.rules.specs.declared.Mail.{Mail}
 use Rattle.rules.specs.declared.Mail.TheVariants.{Smtp, Pop3, Imap}
 use Rattle.rules.specs.declared.Settings.{Settings}
-use Rattle.windows.specs.Windows as windows
 use Rattle.windows.specs.Windows.{Record, begins, said, window, taken}
 use Rattle.tap.specs.declared.Seen.{Seen}
 use Rattle.tap.specs.declared.Session.{Session}
