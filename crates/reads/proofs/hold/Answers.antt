@@ -15,6 +15,5 @@ returns-in-Stopped c = rw (whole_some _ _ _ _ c.if-n-eq0.false) (notes_none (ev 
 
 -- its event is listed, and its stop follows
 pub returns-in-Written : goal.returns-in-Written
-returns-in-Written c = let stop = c.note-in-Written in
-    rw (whole_some _ _ _ _ c.if-n-eq0.false)
-    (notes_on (ev body_stop _ 0 Unsaid ∷ []) stop.result stop.new.0 (rw c.in-Written.is at c.note-2.ensures) stop.ensures)
+returns-in-Written c = rw (whole_some _ _ _ _ c.if-n-eq0.false)
+    (notes_on (ev body_stop _ 0 Unsaid ∷ []) c.note-in-Written.result c.note-in-Written.new.table (rw c.in-Written.is at c.note-2.ensures) c.note-in-Written.ensures)
