@@ -1,0 +1,14 @@
+-- `phases::bodies::text` meets its contract. The loop's invariant: what is left at p is what was left. Assumes nothing.
+use Prim.Native.Nat.{◌-◌}
+use lib.ListN.{length}
+use Rattle.rules.specs.Phases.{reads}
+use Rattle.rules.specs.Phases as phase
+use Rattle.windows.specs.Stands.{fresh}
+use Rattle.phases.proofs.Turning.{Looped}
+use Rattle.phases.proofs.bodies.text.Given as goal
+
+abbrev pub invariant-loop-o : goal.invariant-loop-o
+invariant-loop-o l = Looped l.settings l.w l.base l.at l.initial.table l.initial.log (fresh (reads (phase.text l.mail l.encoding))) l.p l.table l.log
+
+abbrev pub decreases-loop-o : goal.decreases-loop-o
+decreases-loop-o l = length l.w - l.p

@@ -1,0 +1,13 @@
+-- `phases::envelope::recipients` meets its contract. The loop's invariant: what is left at p is what was left. Assumes nothing.
+use Prim.Native.Nat.{◌-◌}
+use lib.ListN.{length}
+use Rattle.rules.specs.Phases.{reads, recipient}
+use Rattle.windows.specs.Stands.{fresh}
+use Rattle.phases.proofs.Turning.{Looped}
+use Rattle.phases.proofs.envelope.recipients.Given as goal
+
+abbrev pub invariant-loop-o : goal.invariant-loop-o
+invariant-loop-o l = Looped l.settings l.w l.base l.at l.initial.table l.initial.n (fresh (reads recipient)) l.p l.table l.n
+
+abbrev pub decreases-loop-o : goal.decreases-loop-o
+decreases-loop-o l = length l.w - l.p

@@ -1,0 +1,13 @@
+-- `phases::envelope::seeking` meets its contract. The loop's invariant: what is left at p is what was left. Assumes nothing.
+use Prim.Native.Nat.{◌-◌}
+use lib.ListN.{length}
+use Rattle.rules.specs.Phases.{reads, seeking}
+use Rattle.windows.specs.Stands.{fresh}
+use Rattle.phases.proofs.Turning.{Looped}
+use Rattle.phases.proofs.envelope.seeking.Given as goal
+
+abbrev pub invariant-loop-o : goal.invariant-loop-o
+invariant-loop-o l = Looped l.settings l.w l.base l.at l.initial.table l.log (fresh (reads seeking)) l.p l.table l.log
+
+abbrev pub decreases-loop-o : goal.decreases-loop-o
+decreases-loop-o l = length l.w - l.p
