@@ -24,7 +24,7 @@ went c = rw c.in-Went.is at c.read_mail.ensures
 
 -- ---- the mail
 pub read_mail-requires : goal.read_mail-requires
-read_mail-requires c = (c.requires.0, c.requires.1, record { is = λ size q.@Start. let same : c.args.at ≡ start = cc in omega arith })
+read_mail-requires c = (c.requires.0, c.requires.1, record { is = λ size start q. let same : c.args.at ≡ start = cc in omega arith })
 
 -- it stopped
 pub returns-in-Stopped : goal.returns-in-Stopped

@@ -1,5 +1,4 @@
 use mathlib.Core.Path.{◌≡◌, sym, ◌∙◌}
-use mathlib.Core.Logic.{⊎_elim}
 use mathlib.Core.List.{List}
 use Prim.Native.Nat.{ℕ, ◌-◌}
 use native.Mathlib.Omega.{arith}
@@ -12,7 +11,7 @@ use Rattle.sessions.specs.Walks.{goes, piece}
 use Rattle.sessions.proofs.MailTurns.{read_as, skipping_last, skipping_on, skip_by_rest, skip_by_line, begun_on}
 use Rattle.sessions.proofs.Readings.{piece_part}
 use Rattle.sessions.proofs.Steps.{here, read_stop, walked}
-use Rattle.sessions.proofs.multi.epilogue.Goals.{After-last_line, In-To, Joined-rest-gt0}
+use Rattle.sessions.proofs.multi.epilogue.Goals.{then-rest-gt0+else-rest-outer, else-rest-gt0, After-last_line, In-To, Joined-rest-gt0}
 use Rattle.sessions.proofs.multi.epilogue.Goals as goal
 
 -- behind the test of the literal's rest, where it is not skipped: a line is asked for
@@ -22,7 +21,7 @@ by-line : (c : Joined-rest-gt0) (b : List ℕ) (os : List (List ℕ)) →
 by-line c b os q =
     let a = c.args in
     skip_by_line a.s.now a.mail b os _ a.outer _ c.literal_rest-rest.ensures q c.requires.3
-    (⊎_elim (λ w h. w.1.left) (λ w h. absurd (omega arith)) c.if-rest-gt0.branch)
+    (elim c.if-rest-gt0.branch [ then-rest-gt0+else-rest-outer w ↦ λ h. w.if-rest-outer.false | else-rest-gt0 w ↦ λ h. absurd (omega arith) ])
 
 -- behind `line`'s answer `To(e)`: the line from p up to e
 line-to : (c : In-To) →
