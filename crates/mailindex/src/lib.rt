@@ -19,8 +19,7 @@ pub enum Chosen {
 }
 
 // Begins a session: what C holds of it is its numbers and the copies of its open boundaries.
-#[unsafe(no_mangle)]
-pub extern "C" fn mailindex_begin(
+pub fn mailindex_begin(
     choices: &[u64; 8],
     numbers: &mut [u64; 24],
     boundaries: &mut [u8; 648],
@@ -46,8 +45,7 @@ pub extern "C" fn mailindex_begin(
 }
 
 // Shows it a window: result, place, count and how many bytes were taken.
-#[unsafe(no_mangle)]
-pub extern "C" fn mailindex_show(
+pub fn mailindex_show(
     numbers: &mut [u64; 24],
     boundaries: &mut [u8; 648],
     w: &[u8],
@@ -122,37 +120,32 @@ fn shown_numbers(a: Answer, taken: usize) -> [u64; 4]
     ]
 }
 
-#[unsafe(no_mangle)]
-pub extern "C" fn mailindex_smtp_client(s: &[u8], table: &mut [u32], answer: &mut [u64; 3])
+pub fn mailindex_smtp_client(s: &[u8], table: &mut [u32], answer: &mut [u64; 3])
     ensures { Answers (smtp_client table.old s.now) table.new answer.new }
 {
     *answer = numbers(sessions::smtp_client(s, table));
 }
 
-#[unsafe(no_mangle)]
-pub extern "C" fn mailindex_smtp_server(s: &[u8], table: &mut [u32], answer: &mut [u64; 3])
+pub fn mailindex_smtp_server(s: &[u8], table: &mut [u32], answer: &mut [u64; 3])
     ensures { Answers (smtp_server table.old s.now) table.new answer.new }
 {
     *answer = numbers(sessions::smtp_server(s, table));
 }
 
-#[unsafe(no_mangle)]
-pub extern "C" fn mailindex_pop3_server(s: &[u8], table: &mut [u32], answer: &mut [u64; 3])
+pub fn mailindex_pop3_server(s: &[u8], table: &mut [u32], answer: &mut [u64; 3])
     ensures { Answers (pop3_server table.old s.now) table.new answer.new }
 {
     *answer = numbers(sessions::pop3_server(s, table));
 }
 
-#[unsafe(no_mangle)]
-pub extern "C" fn mailindex_imap_client(s: &[u8], table: &mut [u32], answer: &mut [u64; 3])
+pub fn mailindex_imap_client(s: &[u8], table: &mut [u32], answer: &mut [u64; 3])
     ensures { Answers (imap_client table.old s.now) table.new answer.new }
 {
     *answer = numbers(sessions::imap_client(s, table));
 }
 
 // A mark that is not 0 says that the payload is held.
-#[unsafe(no_mangle)]
-pub extern "C" fn mailindex_direction(
+pub fn mailindex_direction(
     protocol: u32,
     client_port: u32,
     server_port: u32,
@@ -175,8 +168,7 @@ pub extern "C" fn mailindex_direction(
 }
 
 // The header's number of what the library is.
-#[unsafe(no_mangle)]
-pub extern "C" fn mailindex_version() -> u32
+pub fn mailindex_version() -> u32
     ensures { result ≡ version }
 {
     VERSION
