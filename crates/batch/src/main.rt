@@ -3,7 +3,8 @@
 // or too large; behind one of these the run ends.
 #![tactic(auto)]
 
-ghost use Rattle.std.specs.Prelude.{◌*◌, ◌≤◌, length};
+ghost use Rattle.std.specs.Prelude.{◌*◌, ◌≤◌, length, OnOk};
+ghost use Rattle.std.specs.Io.KnownBytes.{Appends};
 ghost use Rattle.events.specs.Table.{final};
 ghost use Rattle.batch.specs.Batch.{Shows, ShowsOne, OfInput, OfRecord, last, listed, said_of};
 
@@ -11,7 +12,8 @@ use cases::{Guessed, Head};
 use events::Answer;
 use input::Input;
 use letters::Letter;
-use libc::{STDIN_FILENO, STDOUT_FILENO};
+use std::io;
+use std::io::{Stdin, Write};
 
 // A session's bytes, the numbers of its table with some over, and bytes for a listing.
 const BYTES: usize = 65_536;
@@ -27,49 +29,53 @@ enum Text {
     Last(usize),
 }
 
-fn main() {
+fn main(rt: HostRuntime) -> io::Result<()> {
     let mut bytes = [0u8; BYTES];
     let mut table = [0u32; TABLE];
     let mut out = [0u8; OUTPUT];
-    list_all(&mut bytes, &mut table, &mut out);
+    list_all(
+        &mut rt.stdin(),
+        &mut rt.stdout(),
+        &mut bytes,
+        &mut table,
+        &mut out,
+    )
 }
 
 // A proved loop has to end, and nothing says that a file does. So the loop counts its turns down, from a number that no run uses up.
-fn list_all(bytes: &mut [u8], table: &mut [u32], out: &mut [u8])
+fn list_all<W: Write>(
+    input: &mut Stdin,
+    writer: &mut W,
+    bytes: &mut [u8],
+    table: &mut [u32],
+    out: &mut [u8],
+) -> io::Result<()>
     requires { 64 ≤ length out.old }
 {
     let mut turns = u64::MAX;
     while turns > 0 {
-        match next(bytes, table, out) {
-            Text::Case(n) => {
-                if !written(&out[..n]) {
-                    return;
-                }
-            }
-            Text::Last(n) => {
-                written(&out[..n]);
-                return;
-            }
+        match next(input, bytes, table, out) {
+            Text::Case(n) => written(writer, &out[..n])?,
+            Text::Last(n) => return written(writer, &out[..n]),
         }
         turns -= 1;
     }
+    Ok(())
 }
 
-// Whether a text could be written; where not, standard error has the reason.
-fn written(text: &[u8]) -> bool {
-    if !io::write_all(STDOUT_FILENO, text) {
-        os::fail(b"standard output");
-        return false;
-    }
-    true
+// Writes a text; the error says why it could not be written.
+fn written<W: Write>(writer: &mut W, text: &[u8]) -> io::Result<()>
+    ensures { OnOk result (Appends (W.contents writer.old) (W.contents writer.new) text.now) }
+{
+    writer.write_all(text)
 }
 
-fn next(bytes: &mut [u8], table: &mut [u32], out: &mut [u8]) -> Text
+fn next(input: &mut Stdin, bytes: &mut [u8], table: &mut [u32], out: &mut [u8]) -> Text
     requires { 64 ≤ length out.old }
     ensures { ShowsOne (OfInput bytes.new (length table.old) (length out.old)) out.old result out.new }
 {
     let mut head = [0u8; cases::HEAD];
-    match input::fill(STDIN_FILENO, &mut head) {
+    match input::fill(input, &mut head) {
         Input::Failed => last(out, b"unread\n"),
         Input::Bytes(n) => {
             if n == 0 {
@@ -78,7 +84,7 @@ fn next(bytes: &mut [u8], table: &mut [u32], out: &mut [u8]) -> Text
             if n < cases::HEAD {
                 return last(out, b"cut\n");
             }
-            read_case(cases::head_of(&head), bytes, table, out)
+            read_case(input, cases::head_of(&head), bytes, table, out)
         }
     }
 }
@@ -91,7 +97,13 @@ fn last(out: &mut [u8], word: &[u8]) -> Text
 }
 
 // The bytes behind a record's head, and what they come to.
-fn read_case(head: Head, bytes: &mut [u8], table: &mut [u32], out: &mut [u8]) -> Text
+fn read_case(
+    input: &mut Stdin,
+    head: Head,
+    bytes: &mut [u8],
+    table: &mut [u32],
+    out: &mut [u8],
+) -> Text
     requires { 64 ≤ length out.old }
     ensures { ShowsOne (OfRecord head bytes.new (length table.old) (length out.old)) out.old result out.new }
 {
@@ -99,7 +111,7 @@ fn read_case(head: Head, bytes: &mut [u8], table: &mut [u32], out: &mut [u8]) ->
     if bytes.len() < length {
         return last(out, b"large\n");
     }
-    match input::fill(STDIN_FILENO, &mut bytes[..length]) {
+    match input::fill(input, &mut bytes[..length]) {
         Input::Failed => last(out, b"unread\n"),
         Input::Bytes(n) => {
             if n < length {

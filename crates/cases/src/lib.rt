@@ -8,7 +8,7 @@ ghost use Rattle.cases.specs.Cases.{two, four, head_of, sides_of, guess_of, patt
 pub const PATTERN: u32 = 0xA5A5_A5A5;
 
 // The record's letter, how many slots its table has, and how many bytes follow.
-#[derive(Drop)]
+#[derive(Clone, Copy)]
 pub struct Head {
     pub letter: u8,
     pub slots: usize,

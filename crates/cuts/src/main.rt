@@ -3,15 +3,17 @@
 // behind one of these the run ends.
 #![tactic(auto)]
 
-ghost use Rattle.std.specs.Prelude.{◌+◌, ◌*◌, ◌≤◌, length};
+ghost use Rattle.std.specs.Prelude.{◌+◌, ◌*◌, ◌≤◌, length, OnOk};
+ghost use Rattle.std.specs.Io.KnownBytes.{Appends};
 ghost use Rattle.cuts.specs.Cuts.{size, text_in};
 
 use cases::Head;
 use events::{Answer, Outcome};
 use input::Input;
 use letters::Letter;
-use libc::{STDIN_FILENO, STDOUT_FILENO};
 use rules::{Entry, Settings};
+use std::io;
+use std::io::{Stdin, Write};
 use tap::{Session, Shown};
 
 // A session's bytes, its windows' lengths, the numbers of its table with some over, and bytes for a listing.
@@ -38,50 +40,62 @@ enum Windows {
     Large,
 }
 
-fn main() {
+fn main(rt: HostRuntime) -> io::Result<()> {
     let mut bytes = [0u8; BYTES];
     let mut lengths = [0u8; LENGTHS];
     let mut table = [0u32; TABLE];
     let mut out = [0u8; OUTPUT];
-    list_all(&mut bytes, &mut lengths, &mut table, &mut out);
+    list_all(
+        &mut rt.stdin(),
+        &mut rt.stdout(),
+        &mut bytes,
+        &mut lengths,
+        &mut table,
+        &mut out,
+    )
 }
 
 // A proved loop has to end, and nothing says that a file does. So the loop counts its turns down, from a number that no run uses up.
-fn list_all(bytes: &mut [u8], lengths: &mut [u8], table: &mut [u32], out: &mut [u8])
+fn list_all<W: Write>(
+    input: &mut Stdin,
+    writer: &mut W,
+    bytes: &mut [u8],
+    lengths: &mut [u8],
+    table: &mut [u32],
+    out: &mut [u8],
+) -> io::Result<()>
     requires { 64 ≤ length out.old }
 {
     let mut turns = u64::MAX;
     while turns > 0 {
-        match next(bytes, lengths, table, out) {
-            Text::Case(n) => {
-                if !written(&out[..n]) {
-                    return;
-                }
-            }
-            Text::Last(n) => {
-                written(&out[..n]);
-                return;
-            }
+        match next(input, bytes, lengths, table, out) {
+            Text::Case(n) => written(writer, &out[..n])?,
+            Text::Last(n) => return written(writer, &out[..n]),
         }
         turns -= 1;
     }
+    Ok(())
 }
 
-// Whether a text could be written; where not, standard error has the reason.
-fn written(text: &[u8]) -> bool {
-    if !io::write_all(STDOUT_FILENO, text) {
-        os::fail(b"standard output");
-        return false;
-    }
-    true
+// Writes a text; the error says why it could not be written.
+fn written<W: Write>(writer: &mut W, text: &[u8]) -> io::Result<()>
+    ensures { OnOk result (Appends (W.contents writer.old) (W.contents writer.new) text.now) }
+{
+    writer.write_all(text)
 }
 
-fn next(bytes: &mut [u8], lengths: &mut [u8], table: &mut [u32], out: &mut [u8]) -> Text
+fn next(
+    input: &mut Stdin,
+    bytes: &mut [u8],
+    lengths: &mut [u8],
+    table: &mut [u32],
+    out: &mut [u8],
+) -> Text
     requires { 64 ≤ length out.old }
     ensures { size result ≤ length out.new }
 {
     let mut head = [0u8; cases::HEAD];
-    match input::fill(STDIN_FILENO, &mut head) {
+    match input::fill(input, &mut head) {
         Input::Failed => last(out, b"unread\n"),
         Input::Bytes(n) => {
             if n == 0 {
@@ -90,7 +104,7 @@ fn next(bytes: &mut [u8], lengths: &mut [u8], table: &mut [u32], out: &mut [u8])
             if n < cases::HEAD {
                 return last(out, b"cut\n");
             }
-            read_case(cases::head_of(&head), bytes, lengths, table, out)
+            read_case(input, cases::head_of(&head), bytes, lengths, table, out)
         }
     }
 }
@@ -104,6 +118,7 @@ fn last(out: &mut [u8], word: &[u8]) -> Text
 
 // The bytes behind a record's head.
 fn read_case(
+    input: &mut Stdin,
     head: Head,
     bytes: &mut [u8],
     lengths: &mut [u8],
@@ -117,14 +132,15 @@ fn read_case(
     if bytes.len() < length {
         return last(out, b"large\n");
     }
-    if !filled(&mut bytes[..length]) {
+    if !filled(input, &mut bytes[..length]) {
         return last(out, b"cut\n");
     }
-    read_windows(head, &bytes[..length], lengths, table, out)
+    read_windows(input, head, &bytes[..length], lengths, table, out)
 }
 
 // The settings and the windows' lengths behind a record's bytes, and what the record comes to.
 fn read_windows(
+    input: &mut Stdin,
     head: Head,
     bytes: &[u8],
     lengths: &mut [u8],
@@ -135,7 +151,7 @@ fn read_windows(
     ensures { size result ≤ length out.new }
 {
     let mut numbers = [0u8; 8];
-    if !filled(&mut numbers) {
+    if !filled(input, &mut numbers) {
         return last(out, b"cut\n");
     }
     let settings = cases::four(&numbers, 0);
@@ -147,7 +163,7 @@ fn read_windows(
         return last(out, b"large\n");
     }
     let end = 4 * windows;
-    if !filled(&mut lengths[..end]) {
+    if !filled(input, &mut lengths[..end]) {
         return last(out, b"cut\n");
     }
     match letters::entry_of(head.letter) {
@@ -168,8 +184,8 @@ fn read_windows(
     }
 }
 
-fn filled(buf: &mut [u8]) -> bool {
-    match input::fill(STDIN_FILENO, buf) {
+fn filled(input: &mut Stdin, buf: &mut [u8]) -> bool {
+    match input::fill(input, buf) {
         Input::Failed => false,
         Input::Bytes(n) => n == buf.len(),
     }

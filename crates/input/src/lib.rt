@@ -2,7 +2,9 @@
 #![tactic(auto)]
 
 ghost use Rattle.std.specs.Prelude.{length};
-ghost use Rattle.input.specs.Input.{within};
+ghost use Rattle.input.specs.Input.{within, Takes};
+
+use std::io::Read;
 
 #[derive(Drop)]
 pub enum Input {
@@ -11,20 +13,21 @@ pub enum Input {
 }
 
 // Fills the buffer, as far as the input goes.
-pub fn fill(fd: i32, buf: &mut [u8]) -> Input
-    ensures { within result (length buf.new) }
+pub fn fill<R: Read>(reader: &mut R, buf: &mut [u8]) -> Input
+    ensures room { within result (length buf.new) }
+    ensures bytes { Takes result (R.remaining reader.old) (R.remaining reader.new) buf.new }
 {
     let mut done = 0;
     while done < buf.len() {
-        let got = libc::read(fd, &mut buf[done..]);
-        if got < 0 {
-            return Input::Failed;
+        match reader.read(&mut buf[done..]) {
+            Err(_) => return Input::Failed,
+            Ok(n) => {
+                if n == 0 {
+                    return Input::Bytes(done);
+                }
+                done += n;
+            }
         }
-        let n = io::count(got, &buf[done..]);
-        if n == 0 {
-            return Input::Bytes(done);
-        }
-        done += n;
     }
     Input::Bytes(done)
 }

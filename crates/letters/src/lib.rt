@@ -12,6 +12,7 @@ pub enum Letter {
     Other,
 }
 
+#[tactic(auto, unfolding(crate::specs::Letters::entry_of))]
 pub fn entry_of(letter: u8) -> Letter
     ensures { result ≡ entry_of letter }
 {

@@ -5,7 +5,7 @@ use mathlib.Core.List.{List, [], ◌∷◌}
 use Prim.Native.Nat.{ℕ, zero, suc, ◌*◌, ◌≤◌, ◌<◌}
 use native.Mathlib.Omega.{arith}
 use lib.ListN.{length, take, drop, get_or, replicate, length-replicate}
-use lib.Seq.{length-take-le}
+use lib.Seq.{length-take-le, take-paste, take-length}
 use borrow.Author.Tests.{lt-ltb, le-ltb}
 use Rattle.letters.specs.Letters.{entry_of}
 use Rattle.rules.specs.Sessions.{answer_of}
@@ -20,6 +20,11 @@ use Rattle.maillist.specs.Maillist.{Prints, printed, by_letter, listed}
 
 prints : {o t u : List ℕ} {r : ℕ} → Pasted o 0 t r u → length t ≤ length o → Prints o t r u
 prints {o} {t} {u} {r} p h = record { puts = p; within = omega (arith, p.end, pasted_length p (omega arith)) }
+
+-- the bytes that are printed stand at the front
+pub printed_bytes : {o t u : List ℕ} {r : ℕ} → Prints o t r u → take r u ≡ t
+printed_bytes {o} {t} {u} {r} p =
+    rw (p.puts.end, p.puts.is) (take-paste o 0 t (length t) (omega arith) (omega arith) ∙ take-length t)
 
 -- ---- a session
 take_replicate : (n m : ℕ) → n ≤ m → take n (replicate {A = ℕ} m 0) ≡ replicate n 0

@@ -1,14 +1,16 @@
 // Lists a session from standard input: its letter (S, s, P or I), then at most 3,072 bytes; prints `bad` or `long` where it is not so.
-// Where standard input cannot be read to its end nothing is listed: a line on standard error says why.
+// Where standard input cannot be read to its end nothing is listed: the program ends with an error.
 #![tactic(auto)]
 
-ghost use Rattle.std.specs.Prelude.{◌≡◌, ◌≤◌, length, replicate};
+ghost use Rattle.std.specs.Prelude.{◌≡◌, ◌≤◌, length, replicate, OnOk};
+ghost use Rattle.std.specs.Io.KnownBytes.{Appends};
 ghost use Rattle.maillist.specs.Maillist.{Prints, printed, listed};
 
 use input::Input;
 use letters::Letter;
-use libc::{STDIN_FILENO, STDOUT_FILENO};
 use rules::Entry;
+use std::io;
+use std::io::{Error, Write};
 
 // A letter, the session's bytes, and one byte by which a longer session is known.
 const INPUT: usize = 3_074;
@@ -20,20 +22,21 @@ const TABLE: usize = 12_288;
 
 const OUTPUT: usize = 258_111;
 
-fn main() {
+fn main(rt: HostRuntime) -> io::Result<()> {
     let mut bytes = [0u8; INPUT];
-    match input::fill(STDIN_FILENO, &mut bytes) {
-        Input::Failed => os::fail(b"standard input"),
-        Input::Bytes(n) => print(&bytes[..n]),
+    match input::fill(&mut rt.stdin(), &mut bytes) {
+        Input::Failed => Err(Error::other("standard input")),
+        Input::Bytes(n) => print(&mut rt.stdout(), &bytes[..n]),
     }
 }
 
-fn print(input: &[u8]) {
+// Writes what the program prints on an input.
+fn print<W: Write>(writer: &mut W, input: &[u8]) -> io::Result<()>
+    ensures { OnOk result (Appends (W.contents writer.old) (W.contents writer.new) (printed input.now)) }
+{
     let mut out = [0u8; OUTPUT];
     let n = answer(input, &mut out);
-    if !io::write_all(STDOUT_FILENO, &out[..n]) {
-        os::fail(b"standard output");
-    }
+    writer.write_all(&out[..n])
 }
 
 // What the program prints on an input, into out; answers how many bytes that are.

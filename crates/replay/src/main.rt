@@ -11,8 +11,10 @@ use cases::{Guessed, Head};
 use events::Answer;
 use input::Input;
 use letters::Letter;
-use libc::STDOUT_FILENO;
 use rules::Entry;
+use std::fs::File;
+use std::io;
+use std::io::{Stdout, Write};
 use std::num::wrapping_add_u64;
 
 // A session's bytes, its stored events, and the numbers of its table with some over.
@@ -54,26 +56,20 @@ struct Counts {
     broken: bool,
 }
 
-fn main() {
-    let name = b"cases.bin";
-    let fd = os::open_read(name);
-    if fd < 0 {
-        os::fail(name);
-        return;
-    }
+fn main(rt: HostRuntime) -> io::Result<()> {
+    let mut file = File::open(&rt, "cases.bin")?;
     let mut bytes = [0u8; BYTES];
     let mut events = [0u8; EVENTS];
     let mut table = [0u32; TABLE];
     let mut groups = [0u64; GROUPS];
-    let counts = replay(fd, &mut bytes, &mut events, &mut table, &mut groups);
-    libc::close(fd);
-    print_groups(&groups);
-    print_counts(counts);
+    let counts = replay(&mut file, &mut bytes, &mut events, &mut table, &mut groups);
+    print_groups(&mut rt.stdout(), &groups)?;
+    print_counts(&rt, counts)
 }
 
 // Every case of the file, counted in its group. The loop counts its turns down, from a number that no run uses up.
 fn replay(
-    fd: i32,
+    file: &mut File,
     bytes: &mut [u8],
     events: &mut [u8],
     table: &mut [u32],
@@ -83,7 +79,7 @@ fn replay(
     let mut differences = 0;
     let mut turns = u64::MAX;
     while turns > 0 {
-        match next_case(fd, bytes, events, table) {
+        match next_case(file, bytes, events, table) {
             Next::Case(group, different) => {
                 count(groups, group);
                 cases = wrapping_add_u64(cases, 1);
@@ -119,11 +115,11 @@ fn count(groups: &mut [u64], group: usize)
     }
 }
 
-fn next_case(fd: i32, bytes: &mut [u8], events: &mut [u8], table: &mut [u32]) -> Next
+fn next_case(file: &mut File, bytes: &mut [u8], events: &mut [u8], table: &mut [u32]) -> Next
     ensures { OfFile bytes.new events.new result }
 {
     let mut head = [0u8; cases::HEAD];
-    match input::fill(fd, &mut head) {
+    match input::fill(file, &mut head) {
         Input::Failed => Next::Broken,
         Input::Bytes(n) => {
             if n == 0 {
@@ -133,7 +129,7 @@ fn next_case(fd: i32, bytes: &mut [u8], events: &mut [u8], table: &mut [u32]) ->
                 return Next::Broken;
             }
             let h = cases::head_of(&head);
-            match read_case(fd, h, bytes, events, table) {
+            match read_case(file, h, bytes, events, table) {
                 Replayed::Case(result, different) => grouped(h.letter, result, different),
                 Replayed::Broken => Next::Broken,
             }
@@ -150,6 +146,7 @@ fn grouped(letter: u8, res: u32, different: u64) -> Next
     Next::Case(index(letter) * RESULTS + res as usize, different)
 }
 
+#[tactic(auto, unfolding(crate::specs::Replay::index_of))]
 fn index(letter: u8) -> usize
     ensures { (result ≡ index_of letter) × (result ≤ 4) }
 {
@@ -164,7 +161,7 @@ fn index(letter: u8) -> usize
 
 // The bytes behind a record's head and the stored answer behind them.
 fn read_case(
-    fd: i32,
+    file: &mut File,
     head: Head,
     bytes: &mut [u8],
     events: &mut [u8],
@@ -176,31 +173,31 @@ fn read_case(
     if bytes.len() < length {
         return Replayed::Broken;
     }
-    if !filled(fd, &mut bytes[..length]) {
+    if !filled(file, &mut bytes[..length]) {
         return Replayed::Broken;
     }
     if head.letter == b'D' {
-        return direction_case(fd, &bytes[..length]);
+        return direction_case(file, &bytes[..length]);
     }
     match letters::entry_of(head.letter) {
         Letter::Other => Replayed::Broken,
-        Letter::Of(entry) => session_case(fd, entry, head.slots, &bytes[..length], events, table),
+        Letter::Of(entry) => session_case(file, entry, head.slots, &bytes[..length], events, table),
     }
 }
 
 // Whether the file holds enough to fill the buffer.
-fn filled(fd: i32, buf: &mut [u8]) -> bool {
-    match input::fill(fd, buf) {
+fn filled(file: &mut File, buf: &mut [u8]) -> bool {
+    match input::fill(file, buf) {
         Input::Failed => false,
         Input::Bytes(n) => n == buf.len(),
     }
 }
 
-fn direction_case(fd: i32, bytes: &[u8]) -> Replayed
+fn direction_case(file: &mut File, bytes: &[u8]) -> Replayed
     ensures { OrBroken (OfDirection bytes.now) result }
 {
     let mut stored = [0u8; 4];
-    if !filled(fd, &mut stored) {
+    if !filled(file, &mut stored) {
         return Replayed::Broken;
     }
     let result = cases::four(&stored, 0);
@@ -210,6 +207,7 @@ fn direction_case(fd: i32, bytes: &[u8]) -> Replayed
     }
 }
 
+#[tactic(auto, unfolding(crate::specs::Replay::judge))]
 fn judged(same: bool, res: u32) -> Replayed
     ensures { result ≡ judge same res }
 {
@@ -220,7 +218,7 @@ fn judged(same: bool, res: u32) -> Replayed
 }
 
 fn session_case(
-    fd: i32,
+    file: &mut File,
     entry: Entry,
     slots: usize,
     bytes: &[u8],
@@ -230,7 +228,7 @@ fn session_case(
     ensures { OrBroken (OfSession entry slots bytes.now events.new) result }
 {
     let mut stored = [0u8; ANSWER];
-    if !filled(fd, &mut stored) {
+    if !filled(file, &mut stored) {
         return Replayed::Broken;
     }
     let n = cases::four(&stored, 8) as usize;
@@ -238,7 +236,7 @@ fn session_case(
         return Replayed::Broken;
     }
     let size = EVENT * n;
-    if !filled(fd, &mut events[..size]) {
+    if !filled(file, &mut events[..size]) {
         return Replayed::Broken;
     }
     // A table whose length is no multiple of four has as many slots as one without its last numbers.
@@ -277,25 +275,27 @@ fn agrees(table: &[u32], a: Answer, stored: &[u8], events: &[u8]) -> bool
     cases::untouched(&table[written..])
 }
 
-fn print_groups(groups: &[u64]) {
+fn print_groups(out: &mut Stdout, groups: &[u64]) -> io::Result<()> {
     let mut g = 0;
     while g < groups.len() {
         if groups[g] != 0 {
-            print_group(g, groups[g]);
+            print_group(out, g, groups[g])?;
         }
         g += 1;
     }
+    Ok(())
 }
 
-fn print_group(g: usize, n: u64) {
-    let mut out = [0u8; 64];
-    out[0] = letter_of(g / RESULTS);
-    out[1] = b' ';
-    let result = listing::word(&mut out, 2, (g % RESULTS) as u64, b' ');
-    let end = listing::word(&mut out, result, n, b'\n');
-    io::write_all(STDOUT_FILENO, &out[..end]);
+fn print_group(out: &mut Stdout, g: usize, n: u64) -> io::Result<()> {
+    let mut text = [0u8; 64];
+    text[0] = letter_of(g / RESULTS);
+    text[1] = b' ';
+    let result = listing::word(&mut text, 2, (g % RESULTS) as u64, b' ');
+    let end = listing::word(&mut text, result, n, b'\n');
+    out.write_all(&text[..end])
 }
 
+#[tactic(auto, unfolding(crate::specs::Replay::letter_of))]
 fn letter_of(index: usize) -> u8
     ensures { result ≡ letter_of index }
 {
@@ -308,12 +308,11 @@ fn letter_of(index: usize) -> u8
     }
 }
 
-fn print_counts(counts: Counts) {
+fn print_counts(rt: &impl Print, counts: Counts) -> io::Result<()> {
     if counts.broken {
-        io::write_all(STDOUT_FILENO, b"broken\n");
+        println!(rt; "broken")?;
     }
-    io::print_decimal(STDOUT_FILENO, counts.cases);
-    io::write_all(STDOUT_FILENO, b" cases, ");
-    io::print_decimal(STDOUT_FILENO, counts.differences);
-    io::write_all(STDOUT_FILENO, b" differences\n");
+    let cases = counts.cases;
+    let differences = counts.differences;
+    println!(rt; "{cases} cases, {differences} differences")
 }

@@ -1,0 +1,12 @@
+-- `cases::untouched` meets its contract. The loop's invariant: the answer from number i on is the answer. Assumes nothing.
+use Prim.Native.Nat.{◌-◌}
+use lib.ListN.{length}
+use Rattle.cases.specs.Cases.{pattern}
+use Rattle.cases.proofs.Laws.{Asked}
+use Rattle.cases.proofs.untouched.Given as goal
+
+abbrev pub invariant-loop-i : goal.invariant-loop-i
+invariant-loop-i l = Asked pattern l.t l.i
+
+abbrev pub decreases-loop-i : goal.decreases-loop-i
+decreases-loop-i l = length l.t - l.i
