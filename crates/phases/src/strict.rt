@@ -1,9 +1,8 @@
 // Lines as a session's settings let them be read, and how a phase is left where one is not.
-ghost use Rattle.std.specs.Prelude.{◌≡◌, ◌&&◌, ◌+◌, ◌≤◌, length};
+ghost use Rattle.std.specs.Prelude.{◌≡◌, ◌&&◌, ◌+◌, ◌≤◌, ◌<◌, length};
 ghost use Rattle.fields.specs.Common.{part};
 ghost use Rattle.reading.specs.Bytes.{ends_with};
 ghost use Rattle.reading.specs.Reading.{a_line, crlf};
-ghost use Rattle.reads.specs.Clauses.{Ends};
 ghost use Rattle.rules.specs.Sessions.{limit};
 ghost use Rattle.rules.specs.Strict.{is_bare};
 ghost use Rattle.phases.specs.Phasing.{LineIs, CleanLineIs, halted_of};
@@ -46,7 +45,7 @@ pub fn clean_line(settings: Settings, w: &[u8], p: usize) -> Clean
 
 // The line from p up to e.
 fn refuses(settings: Settings, w: &[u8], p: usize, e: usize) -> bool
-    requires { Ends a_line w.now p e }
+    requires { (p < e) × (e ≤ length w.now) }
     ensures { result ≡ (is_bare a_line (part w.now p e) && settings.strict) }
 {
     if settings.strict {
@@ -55,13 +54,16 @@ fn refuses(settings: Settings, w: &[u8], p: usize, e: usize) -> bool
     false
 }
 
-// Of a line of four bytes or more one byte tells, since its last is LF; and it is no dot line, so that the compiler asks no more of it.
+// Of a line of four bytes or more one byte tells, where its last is LF; and it is no dot line, so that the compiler asks no more of it.
 fn bare(w: &[u8], p: usize, e: usize) -> bool
-    requires { Ends a_line w.now p e }
+    requires { (p < e) × (e ≤ length w.now) }
     ensures { result ≡ is_bare a_line (part w.now p e) }
 {
     if e - p < 4 {
         return !ends_in_crlf(&w[p..e]);
+    }
+    if w[e - 1] != b'\n' {
+        return true;
     }
     w[e - 2] != b'\r'
 }

@@ -5,7 +5,7 @@ use Rattle.phases.proofs.strict.clean_line.Goals as goal
 
 -- the line lies in the window
 pub refuses-requires : goal.refuses-requires
-refuses-requires c = let line = rw c.in-To.is at c.clean_line.ensures in line.ends
+refuses-requires c = let line = rw c.in-To.is at c.clean_line.ensures in (line.ends.on, line.ends.within)
 
 -- it refuses
 pub returns-then-refuses : goal.returns-then-refuses

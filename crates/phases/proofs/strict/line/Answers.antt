@@ -5,7 +5,7 @@ use Rattle.phases.proofs.strict.line.Goals as goal
 
 -- the line lies in the window
 pub refuses-requires : goal.refuses-requires
-refuses-requires c = let line = rw c.in-To.is at c.line.ensures in line
+refuses-requires c = let line = rw c.in-To.is at c.line.ensures in (line.on, line.within)
 
 -- it refuses
 pub returns-then-refuses : goal.returns-then-refuses
