@@ -1,4 +1,3 @@
-use Prim.Native.Nat.{◌-◌}
 use native.Mathlib.Omega.{arith}
 use Rattle.phases.proofs.Dispatch.{arrived, ready, arrived_on, arrived_last}
 use Rattle.phases.proofs.advance.Goals as goal

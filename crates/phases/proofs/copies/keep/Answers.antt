@@ -1,4 +1,3 @@
-use Prim.Native.Nat.{◌-◌}
 use native.Mathlib.Omega.{arith}
 use Rattle.phases.proofs.Parting.{none_copied, copied_on, copied_all, short_take}
 use Rattle.phases.proofs.copies.keep.Goals as goal

@@ -1,5 +1,4 @@
 use mathlib.Core.Path.{sym, ◌∙◌}
-use Prim.Native.Nat.{◌-◌}
 use native.Mathlib.Omega.{arith}
 use Rattle.phases.proofs.Heading.{head_start, head_halts, head_full, head_on, head_begun, begins_later}
 use Rattle.phases.specs.Phasing.{Passes}

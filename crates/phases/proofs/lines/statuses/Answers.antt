@@ -1,5 +1,4 @@
 use mathlib.Core.Path.{refl, sym, ◌∙◌}
-use Prim.Native.Nat.{◌-◌}
 use native.Mathlib.Omega.{arith}
 use Rattle.reads.specs.Clauses.{Cleaned}
 use Rattle.reads.proofs.Laws.{begun_pop3}

@@ -1,4 +1,3 @@
-use Prim.Native.Nat.{◌-◌}
 use native.Mathlib.Omega.{arith}
 use Rattle.reading.specs.Reading.{a_line}
 use Rattle.reads.specs.Clauses.{Ends}

@@ -1,9 +1,8 @@
-use Rattle.std.proofs.Common.{List, [], ◌∷◌, ℕ, ◌≤◌, arith}
-use Rattle.rules.specs.Mail.{popped}
-use Rattle.sessions.specs.Walks.{Walks, Within, piece}
+use Rattle.std.proofs.Common.{List, [], ℕ, ◌≤◌, arith}
+use Rattle.sessions.specs.Walks.{piece}
 use Rattle.sessions.specs.declared.walks.Walk.TheVariants as walk
 use Rattle.sessions.proofs.MailTurns.{begun_on}
-use Rattle.sessions.proofs.Parting.{outermost_none, inner, as_closed, none_so_far, answered, head_lies, part_plain, part_ninth, part_deeper}
+use Rattle.sessions.proofs.Parting.{outermost_none, inner, as_closed, none_so_far, answered, part_plain, part_ninth, part_deeper}
 use Rattle.sessions.proofs.Steps.{further, walked}
 use Rattle.sessions.proofs.multi.+multi_body_part.Goals as goal
 

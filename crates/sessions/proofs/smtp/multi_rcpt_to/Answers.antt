@@ -1,5 +1,4 @@
 use mathlib.Core.Path.{sym, ◌∙◌}
-use Prim.Native.Nat.{◌-◌}
 use native.Mathlib.Omega.{arith}
 use Rattle.reads.specs.Clauses.{Cleaned}
 use Rattle.rules.specs.Phases.{wants, recipient}
