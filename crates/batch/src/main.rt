@@ -23,7 +23,7 @@ const TABLE: usize = 262_147;
 const OUTPUT: usize = 262_144;
 
 // The text of a case, and whether another one follows.
-#[derive(Drop)]
+#[derive(Clone, Copy)]
 enum Text {
     Case(usize),
     Last(usize),

@@ -16,7 +16,7 @@ pub struct Head {
 }
 
 // What a record of letter D holds; the server side's payload begins at `server`.
-#[derive(Drop)]
+#[derive(Clone, Copy)]
 struct Sides {
     protocol: u32,
     client_port: u32,
@@ -26,13 +26,13 @@ struct Sides {
     server: usize,
 }
 
-#[derive(Drop)]
+#[derive(Clone, Copy)]
 enum Parted {
     Into(Sides),
     Broken,
 }
 
-#[derive(Drop)]
+#[derive(Clone, Copy)]
 pub enum Guessed {
     Number(u32),
     Broken,

@@ -26,14 +26,14 @@ const TABLE: usize = 262_147;
 const OUTPUT: usize = 262_144;
 
 // The text of a case, and whether another one follows.
-#[derive(Drop)]
+#[derive(Clone, Copy)]
 enum Text {
     Case(usize),
     Last(usize),
 }
 
 // What the windows came to: how far their lines go, with the last answer; or more bytes than the session has; or more lines than there is room for.
-#[derive(Drop)]
+#[derive(Clone, Copy)]
 enum Windows {
     Listed(usize, Answer),
     Broken,

@@ -70,6 +70,7 @@ pub fn dir_confirm(
 }
 
 // One protocol's answer: by the ports, else by the payloads.
+#[tactic(auto, using(crate::proofs::Sides::server_port, crate::proofs::Sides::client_port, crate::proofs::Sides::neither_port))]
 fn confirm(
     p: Protocol,
     client_port: u32,

@@ -118,6 +118,7 @@ pub fn encoding_number(e: Encoding) -> u32
 }
 
 // The only function that stores: the event goes to the next slot, if there is one.
+#[tactic(auto, using(crate::proofs::Laws::put_written, crate::proofs::Laws::put_full))]
 pub fn put(table: &mut [u32], log: Log, e: Event) -> Listed
     ensures { Puts table.old log e result table.new }
 {

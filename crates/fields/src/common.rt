@@ -105,6 +105,7 @@ fn by_type(h: &[u8], at: usize, end: usize, encoding: Encoding, seen: bool) -> S
 }
 
 // The first valid encoding counts; without one, that a line was not recognised. Behind a valid one no line is looked at.
+#[tactic(auto, using(crate::proofs::Encodings::stays, crate::proofs::Encodings::keeps, crate::proofs::Encodings::counts))]
 pub fn first_encoding(e: Encoding, l: &[u8]) -> Encoding
     ensures { result ≡ first_encoding e l.now }
 {

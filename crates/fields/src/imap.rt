@@ -19,6 +19,7 @@ pub fn append(l: &[u8]) -> bool
 }
 
 // The length of the tag. Only a byte above 127 in it asks for the line's characters.
+#[tactic(auto, using(crate::proofs::Texts::tagged_none_yet, crate::proofs::Texts::tagged_on, crate::proofs::Texts::tagged_stop, crate::proofs::Texts::tagged_all))]
 fn tag(l: &[u8]) -> usize
     ensures { result ≡ tag l.now }
 {

@@ -6,7 +6,7 @@ ghost use Rattle.input.specs.Input.{within, Takes};
 
 use std::io::Read;
 
-#[derive(Drop)]
+#[derive(Clone, Copy)]
 pub enum Input {
     Bytes(usize),
     Failed,
@@ -30,4 +30,58 @@ pub fn fill<R: Read>(reader: &mut R, buf: &mut [u8]) -> Input
         }
     }
     Input::Bytes(done)
+}
+
+#[cfg(test)]
+mod tests {
+    use super::*;
+    use std::io;
+    use std::test::Fail;
+
+    // Gives a byte at a time, so many of them, and then fails.
+    #[derive(Clone, Copy)]
+    struct Breaks(u8);
+
+    impl Read for Breaks {
+        fn read(&mut self, buf: &mut [u8]) -> io::Result<usize> {
+            if self.0 == 0 {
+                return Err(io::Error::other("broken"));
+            }
+            if buf.len() == 0 {
+                return Ok(0);
+            }
+            self.0 -= 1;
+            buf[0] = b'x';
+            Ok(1)
+        }
+    }
+
+    // How many bytes were read, if none of the reads failed.
+    fn count(input: Input) -> Option<usize> {
+        match input {
+            Input::Bytes(n) => Some(n),
+            Input::Failed => None,
+        }
+    }
+
+    #[test]
+    fn as_far_as_the_input_goes(rt: HostRuntime) -> Result<(), Fail> {
+        let mut short: &[u8] = b"abc";
+        let mut buf = [0u8; 5];
+        assert_eq!(rt; count(fill(&mut short, &mut buf)), Some(3));
+        assert_eq!(rt; buf, [b'a', b'b', b'c', 0, 0]);
+        let mut long: &[u8] = b"abcdefg";
+        assert_eq!(rt; count(fill(&mut long, &mut buf)), Some(5));
+        assert_eq!(rt; buf, [b'a', b'b', b'c', b'd', b'e']);
+        assert_eq!(rt; long.len(), 2);
+        Ok(())
+    }
+
+    #[test]
+    fn a_failed_read_is_no_end(rt: HostRuntime) -> Result<(), Fail> {
+        let mut buf = [0u8; 5];
+        assert_eq!(rt; count(fill(&mut Breaks(3), &mut buf)), None);
+        assert_eq!(rt; count(fill(&mut Breaks(5), &mut buf)), Some(5));
+        Ok(())
+    }
 }

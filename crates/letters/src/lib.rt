@@ -6,7 +6,7 @@ ghost use Rattle.letters.specs.Letters.{entry_of};
 
 use rules::Entry;
 
-#[derive(Drop)]
+#[derive(Clone, Copy)]
 pub enum Letter {
     Of(Entry),
     Other,

@@ -1,12 +1,19 @@
 -- What is printed, by what the input holds.
 -- Assumes nothing.
-use mathlib.Core.Path.{◌≡◌, refl, sym, ap, ◌∙◌}
-use mathlib.Core.List.{List, [], ◌∷◌}
+use mathlib.Core.Path.{◌≡◌, refl, sym, ap, ◌∙◌, subst}
+use mathlib.Core.List.{List, [], ◌∷◌, ◌++◌, append-nil}
 use Prim.Native.Nat.{ℕ, zero, suc, ◌*◌, ◌≤◌, ◌<◌}
 use native.Mathlib.Omega.{arith}
-use lib.ListN.{length, take, drop, get_or, replicate, length-replicate}
+use lib.Dec.{ltb}
+use lib.ListN.{length, take, drop, get_or, replicate, length-replicate, length-append}
 use lib.Seq.{length-take-le, take-paste, take-length}
-use borrow.Author.Tests.{lt-ltb, le-ltb}
+use borrow.Author.Tests.{lt-ltb, le-ltb, ltb-true, ltb-false}
+use Rattle.std.proofs.Common.{None, Some, IfSome, OnOk, Ok, Err, Result, Option}
+use Rattle.std.specs.Io.KnownBytes.{Appends}
+use Rattle.input.specs.Input.{Takes}
+use Rattle.input.specs.declared.Input.TheVariants.{Bytes}
+use Rattle.letters.specs.declared.Letter.{Letter}
+use Rattle.reading.proofs.Places.{by_test}
 use Rattle.letters.specs.Letters.{entry_of}
 use Rattle.rules.specs.Sessions.{answer_of}
 use Rattle.rules.specs.declared.Entry.{Entry}
@@ -71,3 +78,32 @@ module _ {o u : List ℕ} {r : ℕ} (l : List ℕ) (h : length l ≡ 0 → ⊥) 
   pub entry_printed : (e : Entry) → entry_of (get_or l 0 0) ≡ Of e → Prints o (listed e (drop 1 l)) r u → Prints o (printed l) r u
   unfolding by_letter
   entry_printed e w p = rw (some_printed l h, w) p
+
+-- ---- an input that was read as far as there is room: bytes behind these change nothing
+by_letter_long : (l : Letter) (s t : List ℕ) → 3072 < length s → 3072 < length t → by_letter l s ≡ by_letter l t
+unfolding by_letter listed
+by_letter_long (Of e) s t h k = rw (lt-ltb 3072 (length s) h, lt-ltb 3072 (length t) k)
+by_letter_long Other s t h k = refl
+
+long_same : (l m : List ℕ) → 3074 ≤ length l → printed (l ++ m) ≡ printed l
+unfolding printed
+long_same [] m h = absurd (omega arith)
+long_same (b ∷ l) m h = by_letter_long (entry_of b) (l ++ m) l (omega (arith, length-append l m)) (omega arith)
+
+front_printed : (l f m : List ℕ) → l ≡ f ++ m → (length f < 3074 → m ≡ []) → printed l ≡ printed f
+front_printed l f m e h =
+    by_test (ltb (length f) 3074) (λ t. ap printed (e ∙ ap (◌++◌ f) (h (ltb-true (length f) 3074 t)) ∙ append-nil f))
+    (λ t. ap printed e ∙ long_same f m (ltb-false (length f) 3074 t))
+
+read_printed : (a b : Option (List ℕ)) (n : ℕ) (u : List ℕ) (P : List ℕ → Type 0) → length u ≡ 3074 → n ≤ length u → Takes (Bytes n) a b u
+    → P (printed (take n u)) → IfSome a (λ l. P (printed l))
+read_printed None b n u P k w h p = tt
+read_printed (Some l) None n u P k w h p = absurd h.0
+read_printed (Some l) (Some m) n u P k w h p =
+    let long : length (take n u) ≡ n = length-take-le n u w in
+    subst P (sym (front_printed l (take n u) m h.0 (λ q. h.1 (omega arith)))) p
+
+pub all_printed : {E : Type 0} (a b v x : Option (List ℕ)) (n : ℕ) (u : List ℕ) (r : Result (Unit {0}) E) → length u ≡ 3074 → n ≤ length u → Takes (Bytes n) a b u
+    → OnOk r (Appends v x (printed (take n u))) → OnOk r (IfSome a (λ l. Appends v x (printed l)))
+all_printed a b v x n u (Ok y) k w h p = read_printed a b n u (Appends v x) k w h p
+all_printed a b v x n u (Err e) k w h p = tt

@@ -1,8 +1,8 @@
 // Lists a session from standard input: its letter (S, s, P or I), then at most 3,072 bytes; prints `bad` or `long` where it is not so.
-// Where standard input cannot be read to its end nothing is listed: the program ends with an error.
+// Where standard input cannot be read to its end nothing is listed, and the program ends with an error.
 #![tactic(auto)]
 
-ghost use Rattle.std.specs.Prelude.{◌≡◌, ◌≤◌, length, replicate, OnOk};
+ghost use Rattle.std.specs.Prelude.{◌≡◌, ◌≤◌, length, replicate, OnOk, IfSome};
 ghost use Rattle.std.specs.Io.KnownBytes.{Appends};
 ghost use Rattle.maillist.specs.Maillist.{Prints, printed, listed};
 
@@ -10,7 +10,7 @@ use input::Input;
 use letters::Letter;
 use rules::Entry;
 use std::io;
-use std::io::{Error, Write};
+use std::io::{Error, Read, Write};
 
 // A letter, the session's bytes, and one byte by which a longer session is known.
 const INPUT: usize = 3_074;
@@ -23,10 +23,17 @@ const TABLE: usize = 12_288;
 const OUTPUT: usize = 258_111;
 
 fn main(rt: HostRuntime) -> io::Result<()> {
+    run(&mut rt.stdin(), &mut rt.stdout())
+}
+
+// From a reader whose bytes are known to be xs, what is written is what the program prints on xs.
+fn run<R: Read, W: Write>(reader: &mut R, writer: &mut W) -> io::Result<()>
+    ensures { OnOk result (IfSome (R.remaining reader.old) (λ xs. Appends (W.contents writer.old) (W.contents writer.new) (printed xs))) }
+{
     let mut bytes = [0u8; INPUT];
-    match input::fill(&mut rt.stdin(), &mut bytes) {
+    match input::fill(reader, &mut bytes) {
         Input::Failed => Err(Error::other("standard input")),
-        Input::Bytes(n) => print(&mut rt.stdout(), &bytes[..n]),
+        Input::Bytes(n) => print(writer, &bytes[..n]),
     }
 }
 

@@ -35,21 +35,21 @@ const ANSWER: usize = 12;
 const EVENT: usize = 16;
 
 // The stored result, and how many answers differ from the stored one: none or one.
-#[derive(Drop)]
+#[derive(Clone, Copy)]
 enum Replayed {
     Case(u32, u64),
     Broken,
 }
 
 // A case's group, and how many answers differ; or how the file ended.
-#[derive(Drop)]
+#[derive(Clone, Copy)]
 enum Next {
     Case(usize, u64),
     End,
     Broken,
 }
 
-#[derive(Drop)]
+#[derive(Clone, Copy)]
 struct Counts {
     cases: u64,
     differences: u64,
