@@ -30,7 +30,7 @@ use Rattle.windows.proofs.Courses.{pieces_short, pieces_got}
 use Rattle.windows.proofs.Cut.{over_stays}
 use Rattle.windows.specs.Stands.{Stand, fresh, enter, enters, clipped, copied, goes_on, takes, does, pieces, stand_result}
 use Rattle.windows.specs.Windows.{over, keeps, refused, landed, lands}
-use Rattle.phases.specs.Phasing.{slot, outside, unheard, state_of, Fits, Enters, Piece, Came, Leaves, Goes, TurnIs, onward_of, Halts, waits, refuses as refused-at, halted_of}
+use Rattle.phases.specs.Phasing.{slot, outside, unheard, state_of, Fits, Enters, Piece, Came, Leaves, Goes, TurnIs, onward_of, Halts, waits, refuses as refused_at, halted_of}
 use Rattle.phases.specs.declared.Heard.{Heard}
 use Rattle.phases.specs.declared.Phase.{Phase}
 use Rattle.phases.specs.declared.Phase.TheVariants as is
@@ -114,7 +114,7 @@ module _ {set : Settings} {w : List ℕ} {base p : ℕ} where
 pub halts : {set : Settings} {w : List ℕ} (base : ℕ) {p : ℕ} (k t : List ℕ) (log : Log) {o : Outcome} (ph : Phase) (so : phase.Phase) → state_of k ph ≡ fresh (reads so)
     → wants so ≡ a_line → Halts set w p o → p ≤ length w → Fits ph (base + p) → TurnIs set w base p k t log (fresh (reads so)) (halted_of o ph (base + p) p log) t
 halts {w = w} base {p} k t log {o} ph so e a (waits d) h f = let z : Stops (wants so) w p o = rw a d in rw d.is (waits_whole ph so e z h f)
-halts base k t log ph so e a (refused-at n d b q) h f = rw q (refuses_line {e = n} so (rw a d) (rw a b))
+halts base k t log ph so e a (refused_at n d b q) h f = rw q (refuses_line {e = n} so (rw a d) (rw a b))
 
 -- ---- what follows a piece
 module _ {set : Settings} {w : List ℕ} {base p : ℕ} {f : Stand} {e : ℕ} {re : Reaction State} (d : Piece set w base p f e re) {k t : List ℕ} {log : Log} where

@@ -15,7 +15,7 @@ use Rattle.reading.specs.Bytes.{ends_with}
 use Rattle.reading.specs.Reading.{a_line, clean, crlf, dash}
 use Rattle.reads.specs.Clauses.{Ends, Stops, Cleaned, Written, Notes, Begins}
 use Rattle.reads.specs.declared.Clean.{Clean}
-use Rattle.reads.specs.declared.Clean.TheVariants as Clean-Line
+use Rattle.reads.specs.declared.Clean.TheVariants as clean_line
 use Rattle.reads.specs.declared.Noted.{Noted}
 use Rattle.reads.specs.declared.Noted.TheVariants as noted
 use Rattle.reads.specs.declared.Read.{Read}
@@ -206,8 +206,8 @@ LineIs set w p (read.To e) = Passes set w p e
 LineIs set w p (read.Stop o) = Halts set w p o
 
 abbrev pub CleanLineIs : Settings → List ℕ → ℕ → Clean → Type 0
-CleanLineIs set w p (Clean-Line.To end e) = CleanPasses set w p end e
-CleanLineIs set w p (Clean-Line.Stop o) = Halts set w p o
+CleanLineIs set w p (clean_line.To end e) = CleanPasses set w p end e
+CleanLineIs set w p (clean_line.Stop o) = Halts set w p o
 
 -- the phase waits at p; or it is refused at the session's place `at`, and the window takes nothing
 abbrev pub halted_of : Outcome → Phase → (at p : ℕ) → Log → Turn

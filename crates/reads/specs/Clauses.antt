@@ -14,7 +14,7 @@ use Rattle.rules.specs.Mail.{hyphens}
 use Rattle.rules.specs.declared.Mail.{Mail}
 use Rattle.rules.specs.declared.Mail.TheVariants.{Imap}
 use Rattle.reads.specs.declared.Clean.{Clean}
-use Rattle.reads.specs.declared.Clean.TheVariants as Clean-Line
+use Rattle.reads.specs.declared.Clean.TheVariants as clean_line
 use Rattle.reads.specs.declared.Noted.{Noted}
 use Rattle.reads.specs.declared.Noted.TheVariants as noted
 use Rattle.reads.specs.declared.Read.{Read}
@@ -49,8 +49,8 @@ pub record Cleaned (s : List ℕ) (i end j : ℕ) : Type 0 where
   pub is : part s i end ≡ clean (part s i j)
 
 abbrev pub CleanIs : List ℕ → ℕ → Clean → Type 0
-CleanIs s i (Clean-Line.To end j) = Cleaned s i end j
-CleanIs s i (Clean-Line.Stop o) = Stops a_line s i o
+CleanIs s i (clean_line.To end j) = Cleaned s i end j
+CleanIs s i (clean_line.Stop o) = Stops a_line s i o
 
 pub record Pair (s : List ℕ) (i : ℕ) (l : List ℕ) : Type 0 where
   pub ends : Ends two s i (i + 2)

@@ -24,7 +24,7 @@ use Rattle.fields.specs.declared.smtp.Second.TheVariants as is
 use Rattle.reading.specs.Bytes.{starts_with, same}
 use Rattle.reading.specs.Reading.{clean, crlf, Got, got, short, fetch}
 use Rattle.reading.specs.Text.{text}
-use Rattle.rules.proofs.Strict.{CutShort, alike as same-run, cut_at, cut_short}
+use Rattle.rules.proofs.Strict.{CutShort, alike as same_run, cut_at, cut_short}
 use Rattle.rules.specs.Imap.{on_command, on_offered, on_closing}
 use Rattle.rules.specs.Machine.{Reaction, Ran, turn, go, run}
 use Rattle.rules.specs.Mail.{dot_line, hyphens, levels, after_mail, rest, literal_body, plain_mail, boundary_free, begun, on_head, on_text, on_literal}
@@ -187,7 +187,7 @@ agrees_own x y (longer e more g) h = rw e
 
 cut_own : (x y : Ran State) → CutShort x y → is_twenty (result_of y.state) ≡ false → is_twenty (result_of x.state) ≡ false
 unfolding is_twenty result_of
-cut_own x y (same-run e) h = rw e h
+cut_own x y (same_run e) h = rw e h
 cut_own x y (cut_at p e more g) h = rw e
 
 pieces_own : (set : Settings) (e : Entry) (s : List ℕ) → is_twenty (stand_result (pieces set (enters (start_of e) 0) 0 s).state) ≡ false

@@ -1,27 +1,16 @@
 use mathlib.Core.Path.{◌≡◌, sym, ◌∙◌}
-use mathlib.Core.List.{List}
-use Prim.Native.Nat.{ℕ}
 use native.Mathlib.Omega.{arith}
 use Rattle.fields.specs.Common.{part}
 use Rattle.reading.specs.Reading.{a_line}
 use Rattle.reads.specs.Clauses.{Ends}
-use Rattle.rules.specs.Mail.{outermost, skip, last_line}
-use Rattle.rules.specs.Phases.{reads, skipping, wants}
-use Rattle.sessions.specs.Walks.{goes, piece}
+use Rattle.rules.specs.Mail.{last_line}
+use Rattle.rules.specs.Phases.{skipping, wants}
+use Rattle.sessions.specs.Walks.{piece}
 use Rattle.sessions.proofs.MailTurns.{read_as, skipping_last, skipping_on, skip_by_rest, skip_by_line, begun_on}
 use Rattle.sessions.proofs.Readings.{piece_part}
 use Rattle.sessions.proofs.Steps.{here, read_stop, walked}
-use Rattle.sessions.proofs.multi.epilogue.Goals.{then-rest-gt0+else-rest-outer, else-rest-gt0, After-last_line, In-To, Joined-rest-gt0}
+use Rattle.sessions.proofs.multi.epilogue.Goals.{After-last_line, In-To}
 use Rattle.sessions.proofs.multi.epilogue.Goals as goal
-
--- behind the test of the literal's rest, where it is not skipped: a line is asked for
-by-line : (c : Joined-rest-gt0) (b : List ℕ) (os : List (List ℕ)) →
-    let a = c.args in
-    outermost b os ≡ piece a.s.now a.outer → goes (skip a.mail b os c.loop-outer.p) ≡ goes (reads (skipping a.mail b os))
-by-line c b os q =
-    let a = c.args in
-    skip_by_line a.s.now a.mail b os _ a.outer _ c.literal_rest-rest.ensures q c.requires.3
-    (elim c.if-rest-gt0.branch [ then-rest-gt0+else-rest-outer w ↦ λ h. w.if-rest-outer.false | else-rest-gt0 w ↦ λ h. absurd (omega arith) ])
 
 -- behind `line`'s answer `To(e)`: the line from p up to e
 line-to : (c : In-To) →
@@ -38,13 +27,13 @@ pub literal_rest-rest-requires : goal.literal_rest-rest-requires
 literal_rest-rest-requires c = begun_on c.requires.2 c.loop-outer.invariant.on
 
 pub skip_rest-requires : goal.skip_rest-requires
-skip_rest-requires c = (c.loop-outer.invariant.within, c.if-rest-gt0.true)
+skip_rest-requires c = (c.loop-outer.invariant.within, omega arith)
 
 -- it is skipped, and the search ends
 pub returns-then-rest-outer : goal.returns-then-rest-outer
 returns-then-rest-outer c = let a = c.args in
     λ b os q t. walked (c.loop-outer.invariant.walks b os q t)
-    (rw (skip_by_rest a.s.now a.mail b os _ a.outer _ c.literal_rest-rest.ensures q c.requires.3 c.if-rest-gt0.true c.if-rest-outer.true)
+    (rw (skip_by_rest a.s.now a.mail b os _ a.outer _ c.literal_rest-rest.ensures q c.requires.3 (omega arith) c.if-rest-outer.true)
     (c.skip_rest.ensures _ b os t))
 
 -- ---- a line
@@ -55,7 +44,7 @@ line-requires c = c.loop-outer.invariant.within
 pub returns-in-Stop : goal.returns-in-Stop
 unfolding wants
 returns-in-Stop c = λ b os q t. walked (c.loop-outer.invariant.walks b os q t)
-    (rw (by-line (goal.at.returns-in-Stop c).Joined-rest-gt0 b os q) (read_stop (skipping c.args.mail b os) (rw c.in-Stop.is at c.line.ensures) c.stopped.ensures))
+    (rw (skip_by_line c.args.s.now c.args.mail b os _ c.args.outer _ c.literal_rest-rest.ensures q c.requires.3 (λ h. omega arith)) (read_stop (skipping c.args.mail b os) (rw c.in-Stop.is at c.line.ensures) c.stopped.ensures))
 
 -- the parts that `last_line` is handed: the line, and the outermost boundary
 pub slice_bounds-last_line-count : goal.slice_bounds-last_line-count
@@ -81,7 +70,7 @@ returns-then-last_line c = let mail = c.args.mail in
     let line = line-to (goal.at.returns-then-last_line c).In-To in
     let told = last (goal.at.returns-then-last_line c).After-last_line ∙ c.if-last_line.true in
     λ b os q t. walked (c.loop-outer.invariant.walks b os q t)
-    (rw (by-line (goal.at.returns-then-last_line c).Joined-rest-gt0 b os q) (read_as (skipping mail b os) line (skipping_last line mail b os (rw q told)) (here _ line.within)))
+    (rw (skip_by_line c.args.s.now c.args.mail b os _ c.args.outer _ c.literal_rest-rest.ensures q c.requires.3 (λ h. omega arith)) (read_as (skipping mail b os) line (skipping_last line mail b os (rw q told)) (here _ line.within)))
 
 -- it is not: the search goes on behind it
 pub loop-outer-smaller : goal.loop-outer-smaller
@@ -97,7 +86,7 @@ loop-outer-preserved c = let mail = c.args.mail in
       on = omega (arith, c.loop-outer.invariant.on, line.on);
       within = line.within;
       walks = λ b os q t. walked (c.loop-outer.invariant.walks b os q t)
-          (rw (by-line (goal.at.loop-outer-preserved c).Joined-rest-gt0 b os q) (read_as (skipping mail b os) line (skipping_on line mail b os (rw q told)) (here _ line.within)));
+          (rw (skip_by_line c.args.s.now c.args.mail b os _ c.args.outer _ c.literal_rest-rest.ensures q c.requires.3 (λ h. omega arith)) (read_as (skipping mail b os) line (skipping_on line mail b os (rw q told)) (here _ line.within)));
     }
 
 pub slice_bounds-last_line-start : goal.slice_bounds-last_line-start
