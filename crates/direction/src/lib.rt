@@ -103,6 +103,7 @@ fn port_of(p: Protocol) -> u32
 }
 
 // The answer by the payloads that are held, whatever the ports.
+#[tactic(auto, unfolding(crate::specs::Direction::by_payload))]
 fn by_payload(
     p: Protocol,
     client_held: bool,
@@ -150,6 +151,7 @@ fn greets(p: Protocol, payload: &[u8]) -> bool
 }
 
 // Whether a client of the protocol opens so.
+#[tactic(auto, unfolding(crate::specs::Direction::commands))]
 fn commands(p: Protocol, payload: &[u8]) -> bool
     ensures { result ≡ commands p payload.now }
 {

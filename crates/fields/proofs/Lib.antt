@@ -8,3 +8,4 @@ pub mod Bdrys
 pub mod Encodings
 mod Cases
 mod HeaderCases
+pub mod Octets

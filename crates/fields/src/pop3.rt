@@ -52,6 +52,7 @@ fn numbered(l: &[u8]) -> bool
 }
 
 // Whether digits are a number of octets. Zeros in front are dropped.
+#[tactic(auto, using(crate::proofs::Octets::octets_by, crate::proofs::Compared::dropped_on))]
 pub fn octets(digits: &[u8]) -> bool
     ensures { result ≡ octets digits.now }
 {
@@ -67,6 +68,7 @@ pub fn octets(digits: &[u8]) -> bool
 
 // Whether a number without zeros in front is at most another one in digits. A longer one is larger. Any other is compared with it digit by digit, the last with the
 // last, and 0 where it has no digit; `ahead` is by how much the other is ahead so far.
+#[tactic(auto, using(crate::proofs::Compared::longer))]
 fn at_most(number: &[u8], most: &[u8]) -> bool
     requires { (48 < get_or number.now 0 0) × (lead Digits most.now ≡ length most.now) }
     ensures { result ≡ leb (worth number.now) (worth most.now) }
@@ -115,6 +117,7 @@ fn from_last(l: &[u8], k: usize) -> u8
 }
 
 // Whether white space and `octets` open it.
+#[tactic(auto, unfolding(crate::specs::Pop3::octets_follow))]
 fn octets_follow(l: &[u8]) -> bool
     ensures { result ≡ octets_follow l.now }
 {

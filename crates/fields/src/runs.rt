@@ -78,6 +78,7 @@ pub fn find_last(l: &[u8], b: u8) -> Place
 }
 
 // What digits are worth, if that is at most max. No sum is made that could be more.
+#[tactic(auto, using(crate::proofs::Worth::added_over))]
 pub fn decimal(digits: &[u8], max: u64) -> Number
     ensures { result ≡ up_to max (worth digits.now) }
 {

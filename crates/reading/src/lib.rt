@@ -336,6 +336,7 @@ fn block_dashed(s: &[u8], p: usize, n: usize) -> bool
 }
 
 // Whether p is a place for a delimiter and holds two hyphens.
+#[tactic(auto, using(crate::proofs::Ends::hyphens_not_first, crate::proofs::Ends::hyphens_short, crate::proofs::Ends::hyphens_not_second, crate::proofs::Ends::hyphens_both, crate::proofs::Ends::may_stand_first, crate::proofs::Ends::may_stand_second, crate::proofs::Ends::may_stand_later, crate::proofs::Ends::ends_crlf))]
 fn opens(s: &[u8], p: usize) -> bool
     requires { p < length s.now }
     ensures { result ≡ (starts_with (dash []) (drop p s.now) && may_stand s.now p) }

@@ -132,6 +132,7 @@ pub fn note(
 }
 
 // A body of n bytes from `at` on, and its stop; an empty one is not listed.
+#[tactic(auto, using(crate::proofs::Notes::whole_none))]
 pub fn hold(
     table: &mut [u32],
     log: Log,

@@ -81,6 +81,7 @@ fn dark_up_to(c: u32, at: usize, end: usize) -> usize
 }
 
 // Whether a character is white space.
+#[tactic(auto, using(crate::proofs::Below::space_below, crate::proofs::Spaces::next_line, crate::proofs::Spaces::no_break, crate::proofs::Spaces::ogham, crate::proofs::Spaces::narrow, crate::proofs::Spaces::mathematical, crate::proofs::Spaces::quad, crate::proofs::Spaces::separator, crate::proofs::Spaces::last_space))]
 fn is_space(c: u32) -> bool
     ensures { result ≡ is_space c }
 {
@@ -121,6 +122,7 @@ fn between(first: u32, last: u32, c: u32) -> bool
 }
 
 // How many octets a character has.
+#[tactic(auto, using(crate::proofs::Characters::octets_one, crate::proofs::Characters::octets_two, crate::proofs::Characters::octets_three, crate::proofs::Characters::octets_four))]
 fn octets_of(c: u32) -> usize
     ensures { result ≡ octets_of c }
 {

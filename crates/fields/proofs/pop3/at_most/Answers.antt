@@ -1,15 +1,10 @@
-use mathlib.Core.Path.{◌≡◌, sym}
+use mathlib.Core.Path.{◌≡◌}
 use Prim.Native.Nat.{◌+◌, ◌*◌, ◌-◌}
 use native.Mathlib.Omega.{arith}
 use Rattle.fields.specs.Runs.{from_last}
-use Rattle.fields.proofs.Compared.{Low, longer, from_last_low, ahead_none_yet, ahead_on, far_ahead, overtaken, ahead_all}
+use Rattle.fields.proofs.Compared.{Low, from_last_low, ahead_none_yet, ahead_on, far_ahead, overtaken, ahead_all}
 use Rattle.fields.proofs.pop3.at_most.Goals.{After-from_last}
 use Rattle.fields.proofs.pop3.at_most.Goals as goal
-
--- ---- more digits than the other has
-pub returns-then-most-number : goal.returns-then-most-number
-returns-then-most-number c = let pre = c.requires in
-    sym (longer _ _ pre.0 pre.1 c.if-most-number.true)
 
 -- what it has, with its lead
 had : (c : After-from_last) →
@@ -40,7 +35,7 @@ pub returns : goal.returns
 returns c = ahead_all c.loop-left.invariant c.loop-left-test.false
 
 pub loop-left-init : goal.loop-left-init
-loop-left-init c = ahead_none_yet _ _ c.if-most-number.false
+loop-left-init c = ahead_none_yet _ _ (omega arith)
 
 pub tenfold-requires : goal.tenfold-requires
 tenfold-requires c = c.loop-left.invariant.near

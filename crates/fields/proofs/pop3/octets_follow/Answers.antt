@@ -4,13 +4,8 @@ use Rattle.reading.specs.Bytes.{starts_with}
 use Rattle.reading.specs.Text.{text}
 use Rattle.fields.specs.Pop3.{octets_follow}
 use Rattle.fields.specs.declared.runs.Run.TheVariants.{PopWhite}
-use Rattle.fields.proofs.Behind.{run_within, behind_none, behind_some}
+use Rattle.fields.proofs.Behind.{run_within, behind_some}
 use Rattle.fields.proofs.pop3.octets_follow.Goals as goal
-
--- no white space
-pub returns-then-white-eq0 : goal.returns-then-white-eq0
-unfolding octets_follow
-returns-then-white-eq0 c = behind_none PopWhite _ c.leading-white.ensures (starts_with (text "octets")) (omega arith)
 
 -- white space
 pub slice_bounds-starts_with-count : goal.slice_bounds-starts_with-count

@@ -6,13 +6,9 @@ use Rattle.fields.proofs.runs.decimal.Goals as goal
 pub returns-then-max-d : goal.returns-then-max-d
 returns-then-max-d c = added_over c.loop-i.invariant c.loop-i-test.true c.digit-d.ensures (omega arith)
 
--- ten times n and the digit are more
-pub returns-then-max-d-2 : goal.returns-then-max-d-2
-returns-then-max-d-2 c = added_over c.loop-i.invariant c.loop-i-test.true c.digit-d.ensures (omega arith)
-
--- they are not: that is n behind the digit
+-- ten times n and the digit are no more: that is n behind the digit
 pub loop-i-preserved : goal.loop-i-preserved
-loop-i-preserved c = added_on c.loop-i.invariant c.loop-i-test.true c.digit-d.ensures c.if-max-d.false c.if-max-d-2.false
+loop-i-preserved c = added_on c.loop-i.invariant c.loop-i-test.true c.digit-d.ensures c.if-max-d.false (omega arith)
 
 -- ---- behind the last digit
 pub returns : goal.returns
