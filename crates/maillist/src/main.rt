@@ -26,7 +26,7 @@ fn main(rt: HostRuntime) -> io::Result<()> {
     run(&mut rt.stdin(), &mut rt.stdout())
 }
 
-// From a reader whose bytes are known to be xs, what is written is what the program prints on xs.
+// Where it ends well, from a reader whose bytes are known to be xs, what is written is what the program prints on xs.
 fn run<R: Read, W: Write>(reader: &mut R, writer: &mut W) -> io::Result<()>
     ensures { OnOk result (IfSome (R.remaining reader.old) (λ xs. Appends (W.contents writer.old) (W.contents writer.new) (printed xs))) }
 {
