@@ -3,15 +3,12 @@
 // or too large; behind one of these the run ends.
 #![tactic(auto)]
 
-ghost use Rattle.std.specs.Prelude.{◌*◌, ◌≤◌, length, OnOk};
-ghost use Rattle.std.specs.Io.KnownBytes.{Appends};
+ghost use Rattle.std.specs.Prelude.{◌*◌, ◌≤◌, length};
 ghost use Rattle.events.specs.Table.{final};
-ghost use Rattle.batch.specs.Batch.{Shows, ShowsOne, OfInput, OfRecord, last, listed, said_of};
+ghost use Rattle.batch.specs.Batch.{Shows, ShowsOne, OfInput, OfRecord, listed, said_of};
 
-use cases::{Guessed, Head};
+use cases::{Ending, Head};
 use events::Answer;
-use input::Input;
-use letters::Letter;
 use std::io;
 use std::io::{Stdin, Write};
 
@@ -21,13 +18,6 @@ const BYTES: usize = 65_536;
 const TABLE: usize = 262_147;
 
 const OUTPUT: usize = 262_144;
-
-// The text of a case, and whether another one follows.
-#[derive(Clone, Copy)]
-enum Text {
-    Case(usize),
-    Last(usize),
-}
 
 fn main(rt: HostRuntime) -> io::Result<()> {
     let mut bytes = [0u8; BYTES];
@@ -42,7 +32,7 @@ fn main(rt: HostRuntime) -> io::Result<()> {
     )
 }
 
-// A proved loop has to end, and nothing says that a file does. So the loop counts its turns down, from a number that no run uses up.
+// A proved loop has to end, and nothing says that a file does. So the loop has so many turns that no run uses them up.
 fn list_all<W: Write>(
     input: &mut Stdin,
     writer: &mut W,
@@ -52,48 +42,27 @@ fn list_all<W: Write>(
 ) -> io::Result<()>
     requires { 64 ≤ length out.old }
 {
-    let mut turns = u64::MAX;
-    while turns > 0 {
+    for _ in 0..u64::MAX {
         match next(input, bytes, table, out) {
-            Text::Case(n) => written(writer, &out[..n])?,
-            Text::Last(n) => return written(writer, &out[..n]),
+            Ok(n) => writer.write_all(&out[..n])?,
+            Err(ending) => return writer.write_all(ending.word()),
         }
-        turns -= 1;
     }
     Ok(())
 }
 
-// Writes a text; the error says why it could not be written.
-fn written<W: Write>(writer: &mut W, text: &[u8]) -> io::Result<()>
-    ensures { OnOk result (Appends (W.contents writer.old) (W.contents writer.new) text.now) }
-{
-    writer.write_all(text)
-}
-
-fn next(input: &mut Stdin, bytes: &mut [u8], table: &mut [u32], out: &mut [u8]) -> Text
+// How many bytes at the front of out are the text of the next case.
+fn next(
+    input: &mut Stdin,
+    bytes: &mut [u8],
+    table: &mut [u32],
+    out: &mut [u8],
+) -> Result<usize, Ending>
     requires { 64 ≤ length out.old }
     ensures { ShowsOne (OfInput bytes.new (length table.old) (length out.old)) out.old result out.new }
 {
-    let mut head = [0u8; cases::HEAD];
-    match input::fill(input, &mut head) {
-        Input::Failed => last(out, b"unread\n"),
-        Input::Bytes(n) => {
-            if n == 0 {
-                return Text::Last(0);
-            }
-            if n < cases::HEAD {
-                return last(out, b"cut\n");
-            }
-            read_case(input, cases::head_of(&head), bytes, table, out)
-        }
-    }
-}
-
-fn last(out: &mut [u8], word: &[u8]) -> Text
-    requires { length word.now ≤ length out.old }
-    ensures { Shows out.old (last word.now) result out.new }
-{
-    Text::Last(listing::put(out, 0, word))
+    let head = cases::next_head(input)?;
+    read_case(input, head, bytes, table, out)
 }
 
 // The bytes behind a record's head, and what they come to.
@@ -103,65 +72,57 @@ fn read_case(
     bytes: &mut [u8],
     table: &mut [u32],
     out: &mut [u8],
-) -> Text
+) -> Result<usize, Ending>
     requires { 64 ≤ length out.old }
     ensures { ShowsOne (OfRecord head bytes.new (length table.old) (length out.old)) out.old result out.new }
 {
-    let length = head.length;
-    if bytes.len() < length {
-        return last(out, b"large\n");
+    if bytes.len() < head.length {
+        return Err(Ending::Large);
     }
-    match input::fill(input, &mut bytes[..length]) {
-        Input::Failed => last(out, b"unread\n"),
-        Input::Bytes(n) => {
-            if n < length {
-                return last(out, b"cut\n");
-            }
-            case(head.letter, head.slots, &bytes[..length], table, out)
-        }
-    }
+    let s = &mut bytes[..head.length];
+    cases::read(input, s)?;
+    case(head.letter, head.slots, s, table, out)
 }
 
-fn case(letter: u8, slots: usize, bytes: &[u8], table: &mut [u32], out: &mut [u8]) -> Text
+fn case(
+    letter: u8,
+    slots: usize,
+    bytes: &[u8],
+    table: &mut [u32],
+    out: &mut [u8],
+) -> Result<usize, Ending>
     requires { 64 ≤ length out.old }
     ensures { Shows out.old (said_of letter slots (length table.old) (length out.old) bytes.now) result out.new }
 {
     if letter == b'D' {
-        return match cases::guess(bytes) {
-            Guessed::Broken => last(out, b"broken\n"),
-            Guessed::Number(n) => Text::Case(listing::word(out, 0, n as u64, b'\n')),
+        let Some(n) = cases::guess(bytes) else {
+            return Err(Ending::Broken);
         };
+        return Ok(listing::word(out, 0, n as u64, b'\n'));
     }
-    match letters::entry_of(letter) {
-        Letter::Other => last(out, b"broken\n"),
-        Letter::Of(entry) => {
-            // A table whose length is no multiple of four has as many slots as one without its last numbers.
-            if table.len() / events::WIDTH < slots {
-                return last(out, b"large\n");
-            }
-            let lent = events::WIDTH * slots + bytes.len() % events::WIDTH;
-            if table.len() < lent {
-                return last(out, b"large\n");
-            }
-            let t = &mut table[..lent];
-            cases::fill(t);
-            let a = sessions::dissect(entry, bytes, t);
-            list(t, a, out)
-        }
-    }
+    let Some(entry) = letters::entry_of(letter) else {
+        return Err(Ending::Broken);
+    };
+    let Some(lent) = cases::lent(table.len(), slots, bytes.len()) else {
+        return Err(Ending::Large);
+    };
+    let t = &mut table[..lent];
+    cases::fill(t);
+    let a = sessions::dissect(entry, bytes, t);
+    list(t, a, out)
 }
 
 // The listing of an answer, if no number behind its events was written.
-fn list(table: &[u32], a: Answer, out: &mut [u8]) -> Text
+fn list(table: &[u32], a: Answer, out: &mut [u8]) -> Result<usize, Ending>
     requires { (4 * a.count ≤ length table.now) × (64 ≤ length out.old) }
     ensures { Shows out.old (listed (length out.old) (final table.now a.result a.place a.count)) result out.new }
 {
     if (out.len() - listing::LAST_LINE) / listing::EVENT_LINE < a.count {
-        return last(out, b"large\n");
+        return Err(Ending::Large);
     }
     let written = events::WIDTH * a.count;
     if !cases::untouched(&table[written..]) {
-        return last(out, b"touched\n");
+        return Err(Ending::Touched);
     }
-    Text::Case(listing::append(out, 0, table, a))
+    Ok(listing::append(out, 0, table, a))
 }

@@ -9,21 +9,20 @@ use Rattle.direction.specs.Direction.{guess}
 use Rattle.reading.proofs.Rows.{Row, ◌is-neither◌nor◌, met}
 use Rattle.reading.specs.Bytes.{starts_with, same}
 use Rattle.cases.specs.Cases.{two, four, head_of, mark, sides_of, guessed, guess_of, pattern, only, same_from, same_numbers}
-use Rattle.cases.specs.declared.Guessed.{Guessed}
-use Rattle.cases.specs.declared.Guessed.TheVariants.{Number, Broken}
+use Rattle.std.specs.Prelude.{Option, Some, None}
 use Rattle.cases.specs.declared.Head.{Head}
 
 -- ---- tests: one that always says yes, and one that never does
 pub neither_always_nor_never :
     only 7 (7 ∷ []) ∷ only 7 (7 ∷ 8 ∷ []) ∷ same_numbers (513 ∷ []) (1 ∷ 2 ∷ 0 ∷ 0 ∷ []) ∷ same_numbers (513 ∷ []) (1 ∷ 3 ∷ 0 ∷ 0 ∷ []) ∷ []
     ≡ true ∷ false ∷ true ∷ false ∷ []
-unfolding only same_numbers same_from four two
+unfolding same_numbers same_from four two
 neither_always_nor_never = refl
 
 -- ---- answers as numbers
-abbrev guess_no : Guessed → List ℕ
-guess_no (Number n) = n ∷ []
-guess_no Broken = []
+abbrev guess_no : Option ℕ → List ℕ
+guess_no (Some n) = n ∷ []
+guess_no None = []
 
 -- letter S, one slot, two bytes
 abbrev head : Head

@@ -1,29 +1,12 @@
 -- What the classes say of a byte's size.
 -- Assumes nothing.
-use mathlib.Core.Path.{◌≡◌, refl}
-use mathlib.Core.Bool.{Bool, true, false, not, ◌&&◌, ◌||◌, and-false}
-use Prim.Native.Nat.{ℕ, ◌-◌, ◌≤◌, ◌<◌}
+use mathlib.Core.Path.{◌≡◌}
+use mathlib.Core.Bool.{false, and-false}
+use Prim.Native.Nat.{ℕ, ◌<◌}
 use native.Mathlib.Omega.{arith}
 use lib.Dec.{leb, eqb}
-use borrow.Author.Tests.{le-leb, lt-leb, ne_eqb}
-use Rattle.classes.specs.Classes.{is_white, is_blank, is_pop_white, is_digit, is_letter, is_upper, upper_of}
-
--- a letter's upper case, told by the byte's size
-not_both : (t x : Bool) → ((t || (false && x)) && not t) ≡ false
-not_both true x = refl
-not_both false x = refl
-
-pub upper_below : (b : ℕ) → b < 97 → b ≡ upper_of b
-unfolding upper_of is_letter is_upper
-upper_below b h = rw (lt-leb 97 b h, not_both (leb 65 b && leb b 90) (leb b 122)) refl
-
-pub upper_above : (b : ℕ) → 122 < b → b ≡ upper_of b
-unfolding upper_of is_letter is_upper
-upper_above b h = rw (lt-leb b 122 h, lt-leb b 90 (omega arith), and-false (leb 65 b), and-false (leb 97 b)) refl
-
-pub upper_moved : (b : ℕ) → 97 ≤ b → b ≤ 122 → b - 32 ≡ upper_of b
-unfolding upper_of is_letter is_upper
-upper_moved b h g = rw (le-leb 97 b h, le-leb b 122 g, lt-leb b 90 (omega arith), and-false (leb 65 b)) refl
+use borrow.Author.Tests.{lt-leb, ne_eqb}
+use Rattle.classes.specs.Classes.{is_white, is_blank, is_pop_white, is_digit, is_letter, is_upper}
 
 -- what holds of every byte above 127
 pub record Unmarked (b : ℕ) : Type 0 where

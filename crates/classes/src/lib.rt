@@ -323,14 +323,12 @@ pub fn is_upper(b: u8) -> bool
 }
 
 // A letter's upper case; any other byte unchanged.
+#[tactic(auto, unfolding(crate::specs::Classes::upper_of, crate::specs::Classes::is_letter, crate::specs::Classes::is_upper))]
 pub fn upper(b: u8) -> u8
     ensures { result ≡ upper_of b }
 {
-    if b < b'a' {
-        return b;
+    match b {
+        b'a'..=b'z' => b - 32,
+        _ => b,
     }
-    if b > b'z' {
-        return b;
-    }
-    b - 32
 }

@@ -3,14 +3,10 @@
 // behind one of these the run ends.
 #![tactic(auto)]
 
-ghost use Rattle.std.specs.Prelude.{◌+◌, ◌*◌, ◌≤◌, length, OnOk};
-ghost use Rattle.std.specs.Io.KnownBytes.{Appends};
-ghost use Rattle.cuts.specs.Cuts.{size, text_in};
+ghost use Rattle.std.specs.Prelude.{◌+◌, ◌≤◌, length, IfOk};
 
-use cases::Head;
+use cases::{Ending, Head};
 use events::{Answer, Outcome};
-use input::Input;
-use letters::Letter;
 use rules::{Entry, Settings};
 use std::io;
 use std::io::{Stdin, Write};
@@ -25,19 +21,11 @@ const TABLE: usize = 262_147;
 
 const OUTPUT: usize = 262_144;
 
-// The text of a case, and whether another one follows.
+// What the windows came to: how far their lines go, and the last answer.
 #[derive(Clone, Copy)]
-enum Text {
-    Case(usize),
-    Last(usize),
-}
-
-// What the windows came to: how far their lines go, with the last answer; or more bytes than the session has; or more lines than there is room for.
-#[derive(Clone, Copy)]
-enum Windows {
-    Listed(usize, Answer),
-    Broken,
-    Large,
+struct Windows {
+    text: usize,
+    answer: Answer,
 }
 
 fn main(rt: HostRuntime) -> io::Result<()> {
@@ -55,7 +43,7 @@ fn main(rt: HostRuntime) -> io::Result<()> {
     )
 }
 
-// A proved loop has to end, and nothing says that a file does. So the loop counts its turns down, from a number that no run uses up.
+// A proved loop has to end, and nothing says that a file does. So the loop has so many turns that no run uses them up.
 fn list_all<W: Write>(
     input: &mut Stdin,
     writer: &mut W,
@@ -66,76 +54,38 @@ fn list_all<W: Write>(
 ) -> io::Result<()>
     requires { 64 ≤ length out.old }
 {
-    let mut turns = u64::MAX;
-    while turns > 0 {
+    for _ in 0..u64::MAX {
         match next(input, bytes, lengths, table, out) {
-            Text::Case(n) => written(writer, &out[..n])?,
-            Text::Last(n) => return written(writer, &out[..n]),
+            Ok(n) => writer.write_all(&out[..n])?,
+            Err(ending) => return writer.write_all(ending.word()),
         }
-        turns -= 1;
     }
     Ok(())
 }
 
-// Writes a text; the error says why it could not be written.
-fn written<W: Write>(writer: &mut W, text: &[u8]) -> io::Result<()>
-    ensures { OnOk result (Appends (W.contents writer.old) (W.contents writer.new) text.now) }
-{
-    writer.write_all(text)
-}
-
+// How many bytes at the front of out are the text of the next case.
 fn next(
     input: &mut Stdin,
     bytes: &mut [u8],
     lengths: &mut [u8],
     table: &mut [u32],
     out: &mut [u8],
-) -> Text
+) -> Result<usize, Ending>
     requires { 64 ≤ length out.old }
-    ensures { size result ≤ length out.new }
+    ensures { IfOk result (λ n. n ≤ length out.new) }
 {
-    let mut head = [0u8; cases::HEAD];
-    match input::fill(input, &mut head) {
-        Input::Failed => last(out, b"unread\n"),
-        Input::Bytes(n) => {
-            if n == 0 {
-                return Text::Last(0);
-            }
-            if n < cases::HEAD {
-                return last(out, b"cut\n");
-            }
-            read_case(input, cases::head_of(&head), bytes, lengths, table, out)
-        }
+    let head = cases::next_head(input)?;
+    if bytes.len() < head.length {
+        return Err(Ending::Large);
     }
+    let s = &mut bytes[..head.length];
+    read_all(input, s)?;
+    read_windows(input, head, s, lengths, table, out)
 }
 
-fn last(out: &mut [u8], word: &[u8]) -> Text
-    requires { length word.now ≤ length out.old }
-    ensures { size result ≤ length out.new }
-{
-    Text::Last(listing::put(out, 0, word))
-}
-
-// The bytes behind a record's head.
-fn read_case(
-    input: &mut Stdin,
-    head: Head,
-    bytes: &mut [u8],
-    lengths: &mut [u8],
-    table: &mut [u32],
-    out: &mut [u8],
-) -> Text
-    requires { 64 ≤ length out.old }
-    ensures { size result ≤ length out.new }
-{
-    let length = head.length;
-    if bytes.len() < length {
-        return last(out, b"large\n");
-    }
-    if !filled(input, &mut bytes[..length]) {
-        return last(out, b"cut\n");
-    }
-    read_windows(input, head, &bytes[..length], lengths, table, out)
+// A read that fails inside a record cuts it.
+fn read_all(input: &mut Stdin, buf: &mut [u8]) -> Result<(), Ending> {
+    cases::read(input, buf).map_err(|_| Ending::Cut)
 }
 
 // The settings and the windows' lengths behind a record's bytes, and what the record comes to.
@@ -146,49 +96,28 @@ fn read_windows(
     lengths: &mut [u8],
     table: &mut [u32],
     out: &mut [u8],
-) -> Text
+) -> Result<usize, Ending>
     requires { 64 ≤ length out.old }
-    ensures { size result ≤ length out.new }
+    ensures { IfOk result (λ n. n ≤ length out.new) }
 {
     let mut numbers = [0u8; 8];
-    if !filled(input, &mut numbers) {
-        return last(out, b"cut\n");
-    }
-    let settings = cases::four(&numbers, 0);
-    if 1 < settings {
-        return last(out, b"broken\n");
-    }
+    read_all(input, &mut numbers)?;
+    let strict = match cases::four(&numbers, 0) {
+        0 => false,
+        1 => true,
+        _ => return Err(Ending::Broken),
+    };
     let windows = cases::four(&numbers, 4) as usize;
     if lengths.len() / 4 < windows {
-        return last(out, b"large\n");
+        return Err(Ending::Large);
     }
-    let end = 4 * windows;
-    if !filled(input, &mut lengths[..end]) {
-        return last(out, b"cut\n");
-    }
-    match letters::entry_of(head.letter) {
-        Letter::Other => last(out, b"broken\n"),
-        Letter::Of(entry) => {
-            let strict = settings == 1;
-            let chosen = Settings { strict };
-            case(
-                entry,
-                chosen,
-                head.slots,
-                bytes,
-                &lengths[..end],
-                table,
-                out,
-            )
-        }
-    }
-}
-
-fn filled(input: &mut Stdin, buf: &mut [u8]) -> bool {
-    match input::fill(input, buf) {
-        Input::Failed => false,
-        Input::Bytes(n) => n == buf.len(),
-    }
+    let windows = &mut lengths[..4 * windows];
+    read_all(input, windows)?;
+    let Some(entry) = letters::entry_of(head.letter) else {
+        return Err(Ending::Broken);
+    };
+    let settings = Settings { strict };
+    case(entry, settings, head.slots, bytes, windows, table, out)
 }
 
 fn case(
@@ -199,47 +128,40 @@ fn case(
     lengths: &[u8],
     table: &mut [u32],
     out: &mut [u8],
-) -> Text
+) -> Result<usize, Ending>
     requires { 64 ≤ length out.old }
-    ensures { size result ≤ length out.new }
+    ensures { IfOk result (λ n. n ≤ length out.new) }
 {
-    // A table whose length is no multiple of four has as many slots as one without its last numbers.
-    if table.len() / events::WIDTH < slots {
-        return last(out, b"large\n");
-    }
-    let lent = events::WIDTH * slots + bytes.len() % events::WIDTH;
-    if table.len() < lent {
-        return last(out, b"large\n");
-    }
+    let Some(lent) = cases::lent(table.len(), slots, bytes.len()) else {
+        return Err(Ending::Large);
+    };
     let t = &mut table[..lent];
     cases::fill(t);
-    match show_all(entry, settings, bytes, lengths, t, out) {
-        Windows::Broken => last(out, b"broken\n"),
-        Windows::Large => last(out, b"large\n"),
-        Windows::Listed(text, a) => list(t, a, out, text),
-    }
+    let listed = show_all(entry, settings, bytes, lengths, t, out)?;
+    list(t, listed, out)
 }
 
 // The listing of the last answer behind the windows' lines, if no number behind its events was written.
-fn list(table: &[u32], a: Answer, out: &mut [u8], text: usize) -> Text
-    requires { (text ≤ length out.old) × (64 ≤ length out.old) }
-    ensures { size result ≤ length out.new }
+fn list(table: &[u32], windows: Windows, out: &mut [u8]) -> Result<usize, Ending>
+    requires { windows.text ≤ length out.old }
+    ensures { IfOk result (λ n. n ≤ length out.new) }
 {
-    let room = out.len() - text;
+    let count = windows.answer.count;
+    let room = out.len() - windows.text;
     if room < listing::LAST_LINE {
-        return last(out, b"large\n");
+        return Err(Ending::Large);
     }
-    if (room - listing::LAST_LINE) / listing::EVENT_LINE < a.count {
-        return last(out, b"large\n");
+    if (room - listing::LAST_LINE) / listing::EVENT_LINE < count {
+        return Err(Ending::Large);
     }
-    if table.len() / events::WIDTH < a.count {
-        return last(out, b"broken\n");
+    if table.len() / events::WIDTH < count {
+        return Err(Ending::Broken);
     }
-    let written = events::WIDTH * a.count;
+    let written = events::WIDTH * count;
     if !cases::untouched(&table[written..]) {
-        return last(out, b"touched\n");
+        return Err(Ending::Touched);
     }
-    Text::Case(listing::append(out, text, table, a))
+    Ok(listing::append(out, windows.text, table, windows.answer))
 }
 
 // Shows the session's windows one after another; the untaken bytes of each stand before the next.
@@ -250,8 +172,8 @@ fn show_all(
     lengths: &[u8],
     table: &mut [u32],
     out: &mut [u8],
-) -> Windows
-    ensures { text_in result (length out.new) }
+) -> Result<Windows, Ending>
+    ensures { IfOk result (λ windows. windows.text ≤ length out.new) }
 {
     let mut session = tap::begin(entry, settings);
     let mut answer = Answer {
@@ -262,25 +184,22 @@ fn show_all(
     let mut at = 0;
     let mut to = 0;
     let mut text = 0;
-    let mut i = 0;
-    while i < lengths.len() / 4 {
+    for i in 0..lengths.len() / 4 {
         let new = cases::four(lengths, 4 * i) as usize;
         if bytes.len() - to < new {
-            return Windows::Broken;
+            return Err(Ending::Broken);
         }
         if out.len() - text < listing::EVENT_LINE {
-            return Windows::Large;
+            return Err(Ending::Large);
         }
         to += new;
         let r = show(session, &bytes[at..to], table);
-        let s = r.session;
-        session = s;
+        session = r.session;
         answer = r.answer;
         at += r.taken;
         text = window_line(out, text, r.taken, answer);
-        i += 1;
     }
-    Windows::Listed(text, answer)
+    Ok(Windows { text, answer })
 }
 
 // What a window takes lies in it.
@@ -295,9 +214,9 @@ fn window_line(out: &mut [u8], at: usize, taken: usize, a: Answer) -> usize
     requires { at + 84 ≤ length out.old }
     ensures { result ≤ length out.new }
 {
-    let result = a.result;
+    let number = events::result_number(a.result);
     let place = listing::word(out, at, taken as u64, b' ');
-    let next = listing::word(out, place, events::result_number(result) as u64, b' ');
+    let next = listing::word(out, place, number as u64, b' ');
     let then = listing::word(out, next, a.place as u64, b' ');
     listing::word(out, then, a.count as u64, b'\n')
 }

@@ -1,54 +1,32 @@
--- The answer of one protocol, one law for each way to it.
+-- The answer by a protocol's number, and that nothing is read of a payload that is not held.
 -- Assumes nothing.
-use mathlib.Core.Path.{◌≡◌}
-use mathlib.Core.Bool.{true, false, ◌&&◌, not, and-false}
-use borrow.Author.Tests.{eq-eqb, ne_eqb}
-use Rattle.direction.specs.Direction.{Side, port_of, greets, commands, by_payload, confirm}
-use Rattle.direction.specs.declared.Guess.TheVariants.{AsGiven, Swapped, Unknown}
+use mathlib.Core.Path.{◌≡◌, refl}
+use mathlib.Core.Bool.{Bool, true, false}
+use mathlib.Core.List.{List}
+use Prim.Native.Nat.{ℕ}
+use denote.Bor.{Bor}
+use Rattle.std.proofs.Common.{arith}
+use Rattle.std.proofs.lemmas.Bool.Decides.{nat_tests}
+use Rattle.std.specs.Bool.{then_some}
+use Rattle.std.specs.Prelude.{Some, None}
+use Rattle.direction.specs.Direction.{Side, side, seen, protocol_of, by_payload, confirm, guess}
+use Rattle.direction.specs.declared.Guess.TheVariants.{OtherProtocol}
 use Rattle.direction.specs.declared.Protocol.{Protocol}
 
-module _ (p : Protocol) (c s : Side) where
-  -- ---- by the ports
-  pub server_port : s.port ≡ port_of p → AsGiven ≡ confirm p c s
-  unfolding confirm
-  server_port e = rw (eq-eqb s.port (port_of p) e)
+module _ (n : ℕ) (c s : Side) where
+  pub guess_named : (p : Protocol) → protocol_of n ≡ Some p → confirm p c s ≡ guess n c s
+  unfolding protocol_of guess
+  guess_named p e = grind (arith, nat_tests)
 
-  pub client_port : (s.port ≡ port_of p → ⊥) → c.port ≡ port_of p → Swapped ≡ confirm p c s
-  unfolding confirm
-  client_port n e = rw (ne_eqb s.port (port_of p) n, eq-eqb c.port (port_of p) e)
+  pub guess_other : protocol_of n ≡ None → OtherProtocol ≡ guess n c s
+  unfolding protocol_of guess
+  guess_other e = grind (arith, nat_tests)
 
-  pub neither_port : (s.port ≡ port_of p → ⊥) → (c.port ≡ port_of p → ⊥) → by_payload p c s ≡ confirm p c s
-  unfolding confirm
-  neither_port n m = rw (ne_eqb s.port (port_of p) n, ne_eqb c.port (port_of p) m)
-
-  -- ---- by the payloads
-  pub unheld : c.held ≡ false → s.held ≡ false → Unknown ≡ by_payload p c s
-  unfolding by_payload
-  unheld h g = rw (h, g)
-
-  pub server_greets : s.held ≡ true → greets p s.payload ≡ true → AsGiven ≡ by_payload p c s
-  unfolding by_payload
-  server_greets h g = rw (h, and-false (not c.held), g)
-
-  pub server_commands : s.held ≡ true → greets p s.payload ≡ false → commands p s.payload ≡ true → Swapped ≡ by_payload p c s
-  unfolding by_payload
-  server_commands h g d = rw (h, and-false (not c.held), g, d)
-
--- one payload is held, and the server side's tells nothing
-pub record Unsaid (p : Protocol) (c s : Side) : Type 0 where
-  pub some_held : (not c.held && not s.held) ≡ false
-  pub no_greeting : (s.held && greets p s.payload) ≡ false
-  pub no_command : (s.held && commands p s.payload) ≡ false
-
-module _ (p : Protocol) (c s : Side) (u : Unsaid p c s) where
-  pub client_greets : c.held ≡ true → greets p c.payload ≡ true → Swapped ≡ by_payload p c s
-  unfolding by_payload
-  client_greets h g = rw (u.some_held, u.no_greeting, u.no_command, h, g)
-
-  pub client_silent : c.held ≡ true → greets p c.payload ≡ false → AsGiven ≡ by_payload p c s
-  unfolding by_payload
-  client_silent h g = rw (u.some_held, u.no_greeting, u.no_command, h, g)
-
-  pub client_unheld : c.held ≡ false → AsGiven ≡ by_payload p c s
-  unfolding by_payload
-  client_unheld h = rw (u.some_held, u.no_greeting, u.no_command, h)
+pub unread : (p : Protocol) (m n : ℕ) (h g : Bool) (k l : Bor (List ℕ))
+    → confirm p (seen (record { port = m; payload = then_some h k })) (seen (record { port = n; payload = then_some g l }))
+    ≡ confirm p (side m h k.now) (side n g l.now)
+unfolding confirm by_payload
+unread p m n true true k l = refl
+unread p m n true false k l = refl
+unread p m n false true k l = refl
+unread p m n false false k l = refl

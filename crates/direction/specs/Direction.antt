@@ -1,11 +1,11 @@
 -- Which way a line runs: document 01, 'Direction'. Ports `dir_confirm` of smtp.rs, pop3.rs and imap.rs, and `clt_cmd`.
 -- Assumes nothing.
-use Rattle.std.specs.Prelude.{Bool, true, false, cond, not, ◌&&◌, ◌||◌, List, [], ◌∷◌, ℕ, ◌+◌, eqb, leb, length, take, get_or}
+use Rattle.std.specs.Prelude.{Bool, true, false, cond, not, ◌&&◌, ◌||◌, List, [], ◌∷◌, ℕ, ◌+◌, eqb, leb, length, take, get_or, Option, Some, None, is_some}
+use Rattle.std.specs.Borrow.{Bor}
 use Rattle.classes.specs.Classes.{is_letter, is_digit, is_upper}
 use Rattle.reading.specs.Bytes.{starts_with, first_place, holds}
 use Rattle.reading.specs.Text.{text}
-use Rattle.reading.specs.declared.Place.{Place}
-use Rattle.reading.specs.declared.Place.TheVariants.{At, Nowhere}
+use Rattle.direction.specs.declared.End.{End}
 use Rattle.direction.specs.declared.Guess.{Guess}
 use Rattle.direction.specs.declared.Guess.TheVariants.{AsGiven, Swapped, Unknown, OtherProtocol}
 use Rattle.direction.specs.declared.Protocol.{Protocol}
@@ -17,6 +17,10 @@ guess_number AsGiven = 0
 guess_number Swapped = 1
 guess_number Unknown = 2
 guess_number OtherProtocol = 3
+
+-- document 01's number of each protocol
+unfoldable pub protocol_of : ℕ → Option Protocol
+protocol_of n = cond (eqb n 1) (Some Smtp) (cond (eqb n 2) (Some Pop3) (cond (eqb n 3) (Some Imap) None))
 
 -- each protocol's port
 abbrev pub port_of : Protocol → ℕ
@@ -42,9 +46,9 @@ is_tag [] = true
 is_tag (b ∷ l) = is_tag_byte b && is_tag l
 
 -- a space at p, among the first ten bytes: a tag before it, an upper-case letter behind it
-unfoldable pub command_at : List ℕ → Place → Bool
-command_at l (At p) = is_tag (take p l) && is_upper (get_or l (p + 1) 0)
-command_at l Nowhere = false
+unfoldable pub command_at : List ℕ → Option ℕ → Bool
+command_at l (Some p) = is_tag (take p l) && is_upper (get_or l (p + 1) 0)
+command_at l None = false
 
 -- clt_cmd, byte by byte: it opens with a letter or digit, and the first space is as above
 unfoldable pub clt_cmd : List ℕ → Bool
@@ -66,6 +70,14 @@ pub record Side : Type 0 where
 
 abbrev pub side : ℕ → Bool → List ℕ → Side
 side n h l = record { port = n; held = h; payload = l }
+
+-- a side as the code has it: of a payload that is not held nothing is read
+abbrev pub shown : Option (Bor (List ℕ)) → List ℕ
+shown None = []
+shown (Some l) = l.now
+
+abbrev pub seen : End → Side
+seen e = side e.port (is_some e.payload) (shown e.payload)
 
 -- neither payload held: unknown; else by the server side's first bytes, then by the client side's
 unfoldable pub by_payload : Protocol → Side → Side → Guess

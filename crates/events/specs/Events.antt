@@ -4,9 +4,10 @@ use Rattle.std.specs.Prelude.{List, [], ◌∷◌, ℕ}
 use Rattle.events.specs.declared.Encoding.{Encoding}
 use Rattle.events.specs.declared.Encoding.TheVariants.{Unsaid, Bit7, Bit8, Binary, QuotedPrintable, Base64, Unrecognised}
 use Rattle.events.specs.declared.Event.{Event}
+use Rattle.events.specs.declared.Kind.{Kind}
+use Rattle.events.specs.declared.Kind.TheVariants as kinds
 use Rattle.events.specs.declared.Outcome.{Outcome}
-use Rattle.events.specs.declared.Outcome.TheVariants.{Done, Incomplete, TooLong, NoHello, StartTls, NoRecipient, BadDelimiter, SmallLiteral, OpenLiteral, TooDeep, TableFull}
-use Rattle.events.specs.declared.Outcome.TheVariants.{BareLf, LongBoundary, NoSession}
+use Rattle.events.specs.declared.Outcome.TheVariants.{Done, Incomplete, TooLong, NoHello, StartTls, NoRecipient, BadDelimiter, SmallLiteral, OpenLiteral, TooDeep, TableFull, BareLf, LongBoundary, NoSession}
 
 -- how many numbers an event is
 abbrev pub width : ℕ
@@ -48,6 +49,20 @@ sender = 11
 
 abbrev pub recipient : ℕ
 recipient = 12
+
+abbrev pub kind_number : Kind → ℕ
+kind_number kinds.HeaderLine = header_line
+kind_number kinds.BodyStart = body_start
+kind_number kinds.BodyLine = body_line
+kind_number kinds.SizedBody = sized_body
+kind_number kinds.PartBody = part_body
+kind_number kinds.BodyStop = body_stop
+kind_number kinds.ClientLine = client_line
+kind_number kinds.ServerLine = server_line
+kind_number kinds.User = user
+kind_number kinds.Password = password
+kind_number kinds.Sender = sender
+kind_number kinds.Recipient = recipient
 
 abbrev pub encoding_number : Encoding → ℕ
 encoding_number Unsaid = 0

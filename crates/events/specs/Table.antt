@@ -1,12 +1,10 @@
 -- Events go into the table from the front: document 01, 'The event table' and refusal 10 of 'What comes back'.
 -- Assumes nothing.
-use Rattle.std.specs.Prelude.{◌≡◌, Bool, cond, List, [], ◌∷◌, ℕ, ◌+◌, ◌*◌, ◌/◌, ltb, length, get_or}
+use Rattle.std.specs.Prelude.{◌≡◌, Bool, cond, List, [], ◌∷◌, ℕ, ◌+◌, ◌*◌, ◌/◌, ltb, length, get_or, Option, Some, None}
 use Rattle.std.proofs.lemmas.List.Edits.{sets}
 use Rattle.events.specs.Events.{width, numbers}
 use Rattle.events.specs.declared.Answer.{Answer}
 use Rattle.events.specs.declared.Event.{Event}
-use Rattle.events.specs.declared.Listed.{Listed}
-use Rattle.events.specs.declared.Listed.TheVariants.{Written, Full}
 use Rattle.events.specs.declared.Log.{Log}
 use Rattle.events.specs.declared.Outcome.{Outcome}
 use Rattle.events.specs.declared.Outcome.TheVariants.{TableFull}
@@ -70,12 +68,12 @@ finish (all t log) r p = final t r p log.count
 finish (full t q log) r p = final t TableFull q log.count
 
 -- what `put` answers, and the table then
-abbrev pub put_of : List ℕ → Log → Listed
-put_of t log = cond (free t log) (Written (counted log)) Full
+abbrev pub put_of : List ℕ → Log → Option Log
+put_of t log = cond (free t log) (Some (counted log)) None
 
 abbrev pub table_of : List ℕ → Log → Event → List ℕ
 table_of t log e = cond (free t log) (store t log.count e) t
 
-pub record Puts (t : List ℕ) (log : Log) (e : Event) (r : Listed) (u : List ℕ) : Type 0 where
+pub record Puts (t : List ℕ) (log : Log) (e : Event) (r : Option Log) (u : List ℕ) : Type 0 where
   pub answer : r ≡ put_of t log
   pub table : u ≡ table_of t log e

@@ -2,44 +2,36 @@
 #![tactic(auto)]
 
 ghost use Rattle.std.specs.Prelude.{◌≡◌, ◌≤◌};
-ghost use Rattle.events.specs.Events.{encoding_number, ev, result_number};
+ghost use Rattle.events.specs.Events.{encoding_number, ev, kind_number, result_number};
 ghost use Rattle.events.specs.Table.{Puts};
 
 pub const WIDTH: usize = 4;
 
-pub const HEADER_LINE: u32 = 1;
+#[derive(Clone, Copy, PartialEq, Eq)]
+pub enum Kind {
+    HeaderLine = 1,
+    BodyStart = 2,
+    BodyLine = 3,
+    SizedBody = 4,
+    PartBody = 5,
+    BodyStop = 6,
+    ClientLine = 7,
+    ServerLine = 8,
+    User = 9,
+    Password = 10,
+    Sender = 11,
+    Recipient = 12,
+}
 
-pub const BODY_START: u32 = 2;
-
-pub const BODY_LINE: u32 = 3;
-
-pub const SIZED_BODY: u32 = 4;
-
-pub const PART_BODY: u32 = 5;
-
-pub const BODY_STOP: u32 = 6;
-
-pub const CLIENT_LINE: u32 = 7;
-
-pub const SERVER_LINE: u32 = 8;
-
-pub const USER: u32 = 9;
-
-pub const PASSWORD: u32 = 10;
-
-pub const SENDER: u32 = 11;
-
-pub const RECIPIENT: u32 = 12;
-
-#[derive(Clone, Copy)]
+#[derive(Clone, Copy, PartialEq, Eq)]
 pub enum Encoding {
-    Unsaid,
-    Bit7,
-    Bit8,
-    Binary,
-    QuotedPrintable,
-    Base64,
-    Unrecognised,
+    Unsaid = 0,
+    Bit7 = 1,
+    Bit8 = 2,
+    Binary = 3,
+    QuotedPrintable = 4,
+    Base64 = 5,
+    Unrecognised = 6,
 }
 
 #[derive(Clone, Copy)]
@@ -56,29 +48,23 @@ pub struct Log {
     pub count: usize,
 }
 
-#[derive(Clone, Copy)]
-pub enum Listed {
-    Written(Log),
-    Full,
-}
-
 // How a session ended, in the order of document 01's numbers.
-#[derive(Clone, Copy)]
+#[derive(Clone, Copy, PartialEq, Eq)]
 pub enum Outcome {
-    Done,
-    Incomplete,
-    TooLong,
-    NoHello,
-    StartTls,
-    NoRecipient,
-    BadDelimiter,
-    SmallLiteral,
-    OpenLiteral,
-    TooDeep,
-    TableFull,
-    BareLf,
-    LongBoundary,
-    NoSession,
+    Done = 0,
+    Incomplete = 1,
+    TooLong = 2,
+    NoHello = 3,
+    StartTls = 4,
+    NoRecipient = 5,
+    BadDelimiter = 6,
+    SmallLiteral = 7,
+    OpenLiteral = 8,
+    TooDeep = 9,
+    TableFull = 10,
+    BareLf = 11,
+    LongBoundary = 12,
+    NoSession = 20,
 }
 
 #[derive(Clone, Copy)]
@@ -90,12 +76,12 @@ pub struct Answer {
 
 impl Event {
     // Its places lie inside a buffer within the size limit.
-    pub fn new(kind: u32, offset: usize, length: usize, encoding: Encoding) -> Self
+    pub fn new(kind: Kind, offset: usize, length: usize, encoding: Encoding) -> Self
         requires { (offset ≤ 16777216) × (length ≤ 16777216) }
-        ensures { result ≡ ev kind offset length encoding }
+        ensures { result ≡ ev (kind_number kind) offset length encoding }
     {
         Self {
-            kind,
+            kind: kind as u32,
             offset: offset as u32,
             length: length as u32,
             encoding: encoding_number(encoding),
@@ -106,52 +92,26 @@ impl Event {
 pub fn encoding_number(e: Encoding) -> u32
     ensures { result ≡ encoding_number e }
 {
-    match e {
-        Encoding::Unsaid => 0,
-        Encoding::Bit7 => 1,
-        Encoding::Bit8 => 2,
-        Encoding::Binary => 3,
-        Encoding::QuotedPrintable => 4,
-        Encoding::Base64 => 5,
-        Encoding::Unrecognised => 6,
-    }
+    e as u32
 }
 
 // The only function that stores: the event goes to the next slot, if there is one.
-#[tactic(auto, using(crate::proofs::Laws::put_written, crate::proofs::Laws::put_full))]
-pub fn put(table: &mut [u32], log: Log, e: Event) -> Listed
+#[tactic(auto, using(crate::proofs::Laws::put_full))]
+pub fn put(table: &mut [u32], log: Log, e: Event) -> Option<Log>
     ensures { Puts table.old log e result table.new }
 {
     let n = log.count;
     if n < table.len() / WIDTH {
         let i = n * WIDTH;
-        table[i] = e.kind;
-        table[i + 1] = e.offset;
-        table[i + 2] = e.length;
-        table[i + 3] = e.encoding;
-        return Listed::Written(Log { count: n + 1 });
+        table[i..i + WIDTH].copy_from_slice(&[e.kind, e.offset, e.length, e.encoding]);
+        return Some(Log { count: n + 1 });
     }
-    Listed::Full
+    None
 }
 
 // Document 01's number of a result.
 pub fn result_number(r: Outcome) -> u32
     ensures { result ≡ result_number r }
 {
-    match r {
-        Outcome::Done => 0,
-        Outcome::Incomplete => 1,
-        Outcome::TooLong => 2,
-        Outcome::NoHello => 3,
-        Outcome::StartTls => 4,
-        Outcome::NoRecipient => 5,
-        Outcome::BadDelimiter => 6,
-        Outcome::SmallLiteral => 7,
-        Outcome::OpenLiteral => 8,
-        Outcome::TooDeep => 9,
-        Outcome::TableFull => 10,
-        Outcome::BareLf => 11,
-        Outcome::LongBoundary => 12,
-        Outcome::NoSession => 20,
-    }
+    r as u32
 }

@@ -12,7 +12,7 @@ use Rattle.reading.specs.Text.{text}
 use Rattle.utf8.specs.Utf8.{octets_of, is_scalar, is_space, is_tail, lawful, sequence, opened, character, onto, behind, characters, size, is_utf8, dark_lead, dark_end}
 use Rattle.fields.specs.Imap.{tag, append_follows, is_append, dark, text_end, trimmed, braced, from_brace, size_of, append_size, holds_colon}
 use Rattle.fields.specs.Pop3.{stls_answer, octets, octets_follow, numbered, retr_answer}
-use Rattle.fields.specs.Runs.{runs, lead, last, last_place, through, worth_behind, worth}
+use Rattle.fields.specs.Runs.{lead, last, last_place, through, worth_behind, worth}
 use Rattle.fields.proofs.Compared.{longer}
 
 -- ---- POP3
@@ -25,7 +25,7 @@ pub retrieves :
     ∷ retr_answer (text "+OK12 octets")
     ∷ []
     ≡ true ∷ false ∷ true ∷ false ∷ []
-unfolding retr_answer numbered octets octets_follow worth worth_behind lead runs is_pop_white is_digit starts_with
+unfolding retr_answer numbered octets octets_follow worth worth_behind lead is_pop_white is_digit starts_with
 retrieves = refl
 
 -- white space on both sides of the number, of four kinds; a number must stand there
@@ -39,7 +39,7 @@ pub further-retrieves :
     ∷ retr_answer (text "+OK" ++ (11 ∷ text "1 octets"))
     ∷ []
     ≡ true ∷ true ∷ false ∷ false ∷ false ∷ false ∷ false ∷ []
-unfolding retr_answer numbered octets octets_follow worth worth_behind lead runs is_pop_white is_digit starts_with
+unfolding retr_answer numbered octets octets_follow worth worth_behind lead is_pop_white is_digit starts_with
 further-retrieves = refl
 
 -- the number by itself: zeros, 1, the largest and the next, each with a zero in front, eleven digits. Nine bytes are too much if the first is worth 207
@@ -65,7 +65,7 @@ many_zeros zero l = refl
 many_zeros (suc n) l = many_zeros n l
 
 pub many_nines : (n : ℕ) → 10 ≤ n → octets (replicate (suc n) 57) ≡ false
-unfolding octets worth worth_behind lead runs is_digit
+unfolding octets worth worth_behind lead is_digit
 many_nines n h = longer (replicate (suc n) 57) (text "4294967295") (omega arith) refl (omega (arith, length-replicate {A = ℕ} n 57))
 
 pub millions : (octets (replicate 1000000 48 ++ text "1") ≡ octets (text "1")) × (octets (replicate 1000000 57) ≡ false)
@@ -98,7 +98,7 @@ pub appends :
     ∷ is_append (text "")
     ∷ []
     ≡ true ∷ true ∷ false ∷ false ∷ false ∷ false ∷ false ∷ false ∷ false ∷ []
-unfolding is_append tag append_follows is_utf8 characters behind onto character opened octets_of size dark_lead is_space lead runs is_white is_blank starts_with
+unfolding is_append tag append_follows is_utf8 characters behind onto character opened octets_of size dark_lead is_space lead is_white is_blank starts_with
 appends = refl
 
 -- the last { opens the size, and bytes may stand behind its }; a sign or no digit is 0; so is 2^64, but not the number below it
@@ -111,7 +111,7 @@ pub sizes :
     ∷ []
     ≡ 10 ∷ 0 ∷ 0 ∷ 0 ∷ 18446744073709551615 ∷ []
 unfolding append_size size_of trimmed text_end is_utf8 characters behind onto character opened octets_of size dark_end is_space through dark from_brace braced worth
-    worth_behind last last_place holds lead runs is_white is_digit ends_with same starts_with
+    worth_behind last last_place holds lead is_white is_digit ends_with same starts_with
 sizes = refl
 
 -- white space behind, two pairs of braces, bytes between two }, no closing brace, none that opens, nothing
@@ -126,7 +126,7 @@ pub further-sizes :
     ∷ []
     ≡ 11 ∷ 7 ∷ 3 ∷ 0 ∷ 0 ∷ 0 ∷ 0 ∷ []
 unfolding append_size size_of trimmed text_end is_utf8 characters behind onto character opened octets_of size dark_end is_space through dark from_brace braced worth
-    worth_behind last last_place holds lead runs is_white is_digit ends_with same starts_with
+    worth_behind last last_place holds lead is_white is_digit ends_with same starts_with
 further-sizes = refl
 
 -- document 02, W8. White space ends a tag: U+0085, U+3000, not U+200B nor the letter e with an accent; where the line is no UTF-8, no byte above 127 does;
@@ -142,7 +142,7 @@ pub wide-appends :
     ∷ is_append (0x61 ∷ 0x20 ∷ 0xc2 ∷ 0xa0 ∷ text "APPEND")
     ∷ []
     ≡ false ∷ false ∷ true ∷ true ∷ true ∷ true ∷ false ∷ false ∷ []
-unfolding is_append tag append_follows is_utf8 characters behind onto character opened sequence lawful is_tail is_scalar octets_of size dark_lead is_space lead runs
+unfolding is_append tag append_follows is_utf8 characters behind onto character opened sequence lawful is_tail is_scalar octets_of size dark_lead is_space lead
     is_white is_blank starts_with
 wide-appends = refl
 
@@ -159,7 +159,7 @@ pub wide-sizes :
     ∷ []
     ≡ 7 ∷ 7 ∷ 0 ∷ 0 ∷ 0 ∷ 0 ∷ 0 ∷ 7 ∷ []
 unfolding append_size size_of trimmed text_end is_utf8 characters behind onto character opened sequence lawful is_tail is_scalar octets_of size dark_end is_space through
-    dark from_brace braced worth worth_behind last last_place holds lead runs is_white is_digit ends_with same starts_with
+    dark from_brace braced worth worth_behind last last_place holds lead is_white is_digit ends_with same starts_with
 wide-sizes = refl
 
 pub colons :

@@ -13,8 +13,7 @@ use borrow.Author.Tests.{le-leb, lt-leb, leb-true, ltb-true, ltb-false}
 use Rattle.classes.specs.Classes.{is_digit}
 use Rattle.reading.proofs.Places.{by_test}
 use Rattle.reading.proofs.Words.{left_at, both_true}
-use Rattle.fields.specs.Runs.{runs, lead, worth_behind, worth, from_last}
-use Rattle.fields.specs.declared.runs.Run.TheVariants.{Digits}
+use Rattle.fields.specs.Runs.{lead, worth_behind, worth, from_last}
 use Rattle.fields.proofs.Led.{lead_within}
 use Rattle.fields.proofs.Worth.{worth_grows}
 
@@ -42,18 +41,18 @@ module _ {l : List ℕ} {i : ℕ} (z : Dropped l i) where
 abbrev pub Low : ℕ → List ℕ → Type 0
 Low c l = (i : ℕ) → get_or l i 0 ≤ 48 + 9 * c
 
-digits_on : (b n m : ℕ) → n ≤ m → cond (runs Digits b) (1 + n) 0 ≡ suc m → (b ≤ 57) × (n ≡ m)
-unfolding runs is_digit
+digits_on : (b n m : ℕ) → n ≤ m → cond (is_digit b) (1 + n) 0 ≡ suc m → (b ≤ 57) × (n ≡ m)
+unfolding is_digit
 digits_on b n m h e =
     by_test (leb 48 b && leb b 57)
     (λ t. let e' : 1 + n ≡ suc m = rw t at e in (leb-true b 57 (both_true (leb 48 b) (leb b 57) t).1, omega arith))
     (λ f. let e' : 0 ≡ suc m = rw f at e in absurd (omega arith))
 
-digits_low : (l : List ℕ) → lead Digits l ≡ length l → Low 1 l
+digits_low : (l : List ℕ) → lead is_digit l ≡ length l → Low 1 l
 unfolding lead
 digits_low [] e i = omega arith
-digits_low (b ∷ l) e zero = (digits_on b (lead Digits l) (length l) (lead_within Digits l) e).0
-digits_low (b ∷ l) e (suc i) = digits_low l (digits_on b (lead Digits l) (length l) (lead_within Digits l) e).1 i
+digits_low (b ∷ l) e zero = (digits_on b (lead is_digit l) (length l) (lead_within is_digit l) e).0
+digits_low (b ∷ l) e (suc i) = digits_low l (digits_on b (lead is_digit l) (length l) (lead_within is_digit l) e).1 i
 
 -- the law: what is ahead by c stays so, if it has no fewer digits to come
 stays_ahead : (c : ℕ) (l m : List ℕ) (x y : ℕ) → Low c l → length l ≤ length m → x + c ≤ y → worth_behind x l + c ≤ worth_behind y m
@@ -65,7 +64,7 @@ stays_ahead c (b ∷ l) (d ∷ m) x y low g h =
     stays_ahead c l m (x * 10 + (b - 48)) (y * 10 + (d - 48)) (λ i. low (suc i)) (omega arith) still
 
 -- a longer number without zeros in front is larger
-pub longer : (n m : List ℕ) → 48 < get_or n 0 0 → lead Digits m ≡ length m → length m < length n → leb (worth n) (worth m) ≡ false
+pub longer : (n m : List ℕ) → 48 < get_or n 0 0 → lead is_digit m ≡ length m → length m < length n → leb (worth n) (worth m) ≡ false
 unfolding worth worth_behind
 longer [] m h e g = absurd (omega arith)
 longer (d ∷ n) m h e g =
@@ -117,7 +116,7 @@ behind_last c k l m low g h =
     let end = stays_ahead c (last_ones k l) (last_ones k m) (worth (but_last k l)) (worth (but_last k m)) low' fewer h in
     omega (arith, end, worth_split k l, worth_split k m)
 
-pub from_last_low : (k : ℕ) (l : List ℕ) → lead Digits l ≡ length l → from_last k l ≤ 9
+pub from_last_low : (k : ℕ) (l : List ℕ) → lead is_digit l ≡ length l → from_last k l ≤ 9
 unfolding from_last
 from_last_low k l e = by_test (ltb k (length l)) (λ t. rw t (omega (arith, digits_low l e (length l - (k + 1))))) (λ f. rw f (omega arith))
 
@@ -157,7 +156,7 @@ module _ {n m : List ℕ} {k a : ℕ} (s : Ahead n m k a) (some : 0 < k) {h d : 
       sym (le-leb (worth n) (worth m) (omega arith))
 
   -- n is ahead, and digits do not make up for it
-  pub overtaken : lead Digits m ≡ length m → h < d → false ≡ leb (worth n) (worth m)
+  pub overtaken : lead is_digit m ≡ length m → h < d → false ≡ leb (worth n) (worth m)
   overtaken digits g =
       let there : k - 1 < length n = from_last_there (k - 1) n (omega arith) in
       let end = behind_last 1 (k - 1) m n (digits_low m digits) (omega arith) (omega (arith, turn)) in

@@ -3,7 +3,7 @@
 use mathlib.Core.Path.{◌≡◌, refl, sym, ap, ◌∙◌}
 use mathlib.Core.Bool.{Bool, true, false, cond, ◌||◌}
 use mathlib.Core.List.{List, [], ◌∷◌, ◌++◌}
-use mathlib.Core.Option.{Option, none, some}
+use Rattle.std.specs.Prelude.{Option, None, Some}
 use Prim.Native.Nat.{ℕ, ◌≤◌, ◌<◌}
 use Prim.Native.String.{String}
 use native.Mathlib.Omega.{arith}
@@ -16,10 +16,8 @@ use Rattle.events.specs.declared.Encoding.TheVariants.{Unsaid, Bit7, Bit8, Binar
 use Rattle.reading.specs.Bytes.{starts_with, same, raised}
 use Rattle.reading.specs.Text.{text}
 use Rattle.reading.proofs.Places.{by_test}
-use Rattle.fields.specs.Common.{encoding_field, encoding_named, behind_spaces, transfer_encoding, Known, unknown, rank, first_encoding, by_type, by_ext, by_boundary, scanned}
-use Rattle.fields.specs.Common.{content_type, content_type_ext}
-use Rattle.fields.specs.declared.common.Bdry.{Bdry}
-use Rattle.fields.specs.declared.common.Bdry.TheVariants.{Unsupplied, Of}
+use Rattle.fields.specs.Common.{encoding_field, encoding_named, behind_spaces, transfer_encoding, Known, unknown, rank, first_encoding, by_type, by_ext, by_boundary, scanned, content_type, content_type_ext}
+use Rattle.reading.specs.declared.Span.{Span}
 use Rattle.fields.specs.declared.common.ContentType.{ContentType}
 use Rattle.fields.specs.declared.common.ContentType.TheVariants.{Other, Plain, Bounded}
 
@@ -73,18 +71,18 @@ type_keeps : (e : Encoding) (seen : Bool) (l : List ℕ) (c : ContentType) → (
 unfolding by_type
 type_keeps e seen l Other = refl
 type_keeps e seen l Plain = refl
-type_keeps e seen l (Bounded o n) = refl
+type_keeps e seen l (Bounded b) = refl
 
-ext_keeps : (e : Encoding) (seen : Bool) (l : List ℕ) (b : Bdry) → (by_ext e seen l b).encoding ≡ e
+ext_keeps : (e : Encoding) (seen : Bool) (l : List ℕ) (b : Option Span) → (by_ext e seen l b).encoding ≡ e
 unfolding by_ext
-ext_keeps e seen l (Of o n) = refl
-ext_keeps e seen l Unsupplied = type_keeps e seen l (content_type l)
+ext_keeps e seen l (Some b) = refl
+ext_keeps e seen l None = type_keeps e seen l (content_type l)
 
 boundary_keeps : (e : Encoding) (seen : Bool) (b : Option (List ℕ)) (l : List ℕ) → (by_boundary e seen b l).encoding ≡ e
 unfolding by_boundary
-boundary_keeps e seen (some b) l = refl
-boundary_keeps e true none l = ext_keeps e true l (content_type_ext l)
-boundary_keeps e false none l = type_keeps e false l (content_type l)
+boundary_keeps e seen (Some b) l = refl
+boundary_keeps e true None l = ext_keeps e true l (content_type_ext l)
+boundary_keeps e false None l = type_keeps e false l (content_type l)
 
 scan_encoding : (k : Known) (l : List ℕ) → (scanned k l).encoding ≡ first_encoding k.encoding l
 unfolding scanned

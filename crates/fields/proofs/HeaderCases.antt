@@ -3,21 +3,18 @@
 use mathlib.Core.Path.{◌≡◌, refl}
 use mathlib.Core.Bool.{true, false}
 use mathlib.Core.List.{List, [], ◌∷◌, ◌++◌}
-use mathlib.Core.Option.{none, some}
+use Rattle.std.specs.Prelude.{None, Some}
 use Prim.Native.Nat.{ℕ}
 use Prim.Native.String.{String}
 use Rattle.classes.specs.Classes.{upper_of, is_letter, is_upper}
 use Rattle.events.specs.declared.Encoding.TheVariants.{Unsaid, Bit7, QuotedPrintable, Base64, Unrecognised}
 use Rattle.reading.specs.Text.{text}
-use Rattle.reading.specs.Bytes.{starts_with, same, ends_with, raised, first, first_place, holds, stands}
-use Rattle.fields.specs.Runs.{runs, lead}
-use Rattle.fields.specs.Common.{encoding_named, behind_spaces, transfer_encoding, closed, quoted, unquoted, typed, named, bare_parameter, parameter, content_type}
-use Rattle.fields.specs.Common.{content_type_ext, unknown, first_encoding, by_type, by_ext, by_boundary, scanned, dash_bdry}
+use Rattle.reading.specs.Bytes.{starts_with, same, ends_with, raised, first, first_place, holds, stands, span}
+use Rattle.fields.specs.Runs.{lead}
+use Rattle.fields.specs.Common.{encoding_named, behind_spaces, transfer_encoding, closed, quoted, unquoted, typed, named, bare_parameter, parameter, content_type, content_type_ext, unknown, first_encoding, by_type, by_ext, by_boundary, scanned, dash_bdry}
 use Rattle.fields.specs.Smtp.{starts_with_helo, is_mail_from, second_line, is_data, up_to_end, closing, mail_from, required, rcpt_to}
-use Rattle.fields.specs.declared.common.Bdry.TheVariants.{Unsupplied, Of}
 use Rattle.fields.specs.declared.common.ContentType.TheVariants.{Other, Plain, Bounded}
 use Rattle.fields.specs.declared.smtp.Second.TheVariants as second
-use Rattle.fields.specs.declared.smtp.Address.TheVariants.{Given, Missing}
 use Rattle.fields.proofs.Encodings.{after}
 
 pub encodings :
@@ -35,7 +32,7 @@ pub encodings :
     ∷ transfer_encoding (text " Content-Transfer-Encoding: 7bit\r\n")
     ∷ []
     ≡ Base64 ∷ QuotedPrintable ∷ Bit7 ∷ Unrecognised ∷ Unrecognised ∷ Unrecognised ∷ Unrecognised ∷ Unrecognised ∷ Unrecognised ∷ Unsaid ∷ Unsaid ∷ Unsaid ∷ []
-unfolding transfer_encoding encoding_named behind_spaces lead runs same starts_with raised upper_of is_letter is_upper
+unfolding transfer_encoding encoding_named behind_spaces lead same starts_with raised upper_of is_letter is_upper
 encodings = refl
 
 pub types :
@@ -50,8 +47,8 @@ pub types :
     ∷ content_type (text "Content-type: boundary=q\r\n")
     ∷ content_type (text "Content-Type:boundary=q\r\n")
     ∷ []
-    ≡ Bounded 27 3 ∷ Bounded 23 1 ∷ Bounded 23 3 ∷ Bounded 23 2 ∷ Bounded 23 0 ∷ Bounded 36 1 ∷ Other ∷ Plain ∷ Other ∷ Other ∷ []
-unfolding content_type parameter bare_parameter named typed quoted closed unquoted first first_place holds stands starts_with lead runs
+    ≡ Bounded (span 27 3) ∷ Bounded (span 23 1) ∷ Bounded (span 23 3) ∷ Bounded (span 23 2) ∷ Bounded (span 23 0) ∷ Bounded (span 36 1) ∷ Other ∷ Plain ∷ Other ∷ Other ∷ []
+unfolding content_type parameter bare_parameter named typed quoted closed unquoted first first_place holds stands starts_with lead
 types = refl
 
 pub exts :
@@ -60,8 +57,8 @@ pub exts :
     ∷ content_type_ext (text "\tboundary=\"q\r\n")
     ∷ content_type_ext (text " boundary=q\r\n")
     ∷ []
-    ≡ Of 11 1 ∷ Of 10 1 ∷ Unsupplied ∷ Unsupplied ∷ []
-unfolding content_type_ext quoted closed unquoted first first_place holds starts_with lead runs
+    ≡ Some (span 11 1) ∷ Some (span 10 1) ∷ None ∷ None ∷ []
+unfolding content_type_ext quoted closed unquoted first first_place holds starts_with lead
 exts = refl
 
 pub scans :
@@ -71,9 +68,9 @@ pub scans :
     ∷ (after unknown (text "Content-Type: boundary=p\r\n" ∷ text "Content-Type: boundary=q\r\n" ∷ [])).boundary
     ∷ (after unknown (text "Content-Type: a\r\n" ∷ text "\tboundary=\"p\r\n" ∷ text "Content-Type: boundary=q\r\n" ∷ [])).boundary
     ∷ []
-    ≡ some (text "q") ∷ none ∷ none ∷ some (text "p") ∷ some (text "q") ∷ []
+    ≡ Some (text "q") ∷ None ∷ None ∷ Some (text "p") ∷ Some (text "q") ∷ []
 unfolding after scanned first_encoding by_boundary by_ext by_type transfer_encoding content_type parameter bare_parameter named typed content_type_ext quoted closed unquoted
-    first first_place holds stands starts_with lead runs raised upper_of is_letter is_upper
+    first first_place holds stands starts_with lead raised upper_of is_letter is_upper
 scans = refl
 
 abbrev field : String → List ℕ
@@ -88,7 +85,7 @@ pub first-encoding-wins :
     ∷ (after unknown (text "To: d\r\n" ∷ [])).encoding
     ∷ []
     ≡ Base64 ∷ Base64 ∷ Unrecognised ∷ Unrecognised ∷ Unsaid ∷ []
-unfolding after scanned first_encoding by_boundary by_type transfer_encoding encoding_named behind_spaces content_type same starts_with lead runs raised upper_of is_letter is_upper
+unfolding after scanned first_encoding by_boundary by_type transfer_encoding encoding_named behind_spaces content_type same starts_with lead raised upper_of is_letter is_upper
 first-encoding-wins = refl
 
 pub dash-lines :
@@ -131,6 +128,6 @@ pub addresses :
     ∷ rcpt_to (text "RCPT TO: <d@e")
     ∷ rcpt_to (text "RCPT TO:<d>")
     ∷ []
-    ≡ Given 12 3 ∷ Given 12 3 ∷ Given 12 0 ∷ Missing ∷ Missing ∷ Given 10 3 ∷ Missing ∷ Missing ∷ []
+    ≡ Some (span 12 3) ∷ Some (span 12 3) ∷ Some (span 12 0) ∷ None ∷ None ∷ Some (span 10 3) ∷ None ∷ None ∷ []
 unfolding mail_from rcpt_to up_to_end required closing first first_place holds starts_with
 addresses = refl

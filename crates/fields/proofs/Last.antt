@@ -9,8 +9,7 @@ use lib.Dec.{ltb}
 use lib.ListN.{length}
 use borrow.Author.Tests.{ltb-true, ltb-false}
 use Rattle.reading.proofs.Places.{at_same, by_test}
-use Rattle.reading.specs.declared.Place.{Place}
-use Rattle.reading.specs.declared.Place.TheVariants.{At, Nowhere}
+use Rattle.std.specs.Prelude.{Option, Some, None}
 use Rattle.fields.specs.Runs.{last, last_place, through}
 
 -- ---- a search that has come down to n: the last of the first n places is the last place
@@ -23,11 +22,11 @@ unfolding last_place
 back_none_yet test l = record { within = omega arith; is = refl }
 
 module _ {test : ℕ → Bool} {l : List ℕ} {n : ℕ} (b : Back test l n) where
-  pub back_here : 0 < n → test (n - 1) ≡ true → last_place test l ≡ At (n - 1)
+  pub back_here : 0 < n → test (n - 1) ≡ true → last_place test l ≡ Some (n - 1)
   unfolding last
   back_here h t =
       let m : n ≡ suc (n - 1) = omega arith in
-      let e : last test (suc (n - 1)) ≡ At (n - 1) = rw t in
+      let e : last test (suc (n - 1)) ≡ Some (n - 1) = rw t in
       sym b.is ∙ ap (last test) m ∙ e
 
   pub back_on : 0 < n → test (n - 1) ≡ false → Back test l (n - 1)
@@ -37,41 +36,32 @@ module _ {test : ℕ → Bool} {l : List ℕ} {n : ℕ} (b : Back test l n) wher
       let e : last test (suc (n - 1)) ≡ last test (n - 1) = rw t in
       record { within = omega (arith, b.within); is = sym e ∙ ap (last test) (sym m) ∙ b.is }
 
-  pub back_in_vain : n ≤ 0 → last_place test l ≡ Nowhere
+  pub back_in_vain : n ≤ 0 → last_place test l ≡ None
   unfolding last
   back_in_vain h =
       let m : n ≡ 0 = omega arith in
       sym b.is ∙ ap (last test) m
 
-  -- the length up to the place found, that place included
-  pub back_through : 0 < n → test (n - 1) ≡ true → n ≡ through (last_place test l)
-  unfolding through
-  back_through h t = rw (back_here h t) (omega arith)
-
-  pub back_through_none : n ≤ 0 → 0 ≡ through (last_place test l)
-  unfolding through
-  back_through_none h = rw (back_in_vain h)
-
 -- ---- where it lies
 module _ (test : ℕ → Bool) where
-  last_turn : (n p : ℕ) (b : Bool) → (last test n ≡ At p → p < n) → cond b (At n) (last test n) ≡ At p → p < suc n
+  last_turn : (n p : ℕ) (b : Bool) → (last test n ≡ Some p → p < n) → cond b (Some n) (last test n) ≡ Some p → p < suc n
   last_turn n p true i e = omega (arith, at_same e)
   last_turn n p false i e = omega (arith, i e)
 
-  last_below : (n p : ℕ) → last test n ≡ At p → p < n
+  last_below : (n p : ℕ) → last test n ≡ Some p → p < n
   unfolding last
   last_below zero p e = absurd (let z : ◌≡◌ {A = ℕ} 0 1 = cc in omega arith)
   last_below (suc n) p e = last_turn n p (test n) (last_below n p) e
 
-pub last_inside : (test : ℕ → Bool) (l : List ℕ) (p : ℕ) → last_place test l ≡ At p → p < length l
+pub last_inside : (test : ℕ → Bool) (l : List ℕ) (p : ℕ) → last_place test l ≡ Some p → p < length l
 unfolding last_place
 last_inside test l p e = last_below test (length l) p e
 
 -- up to it is no further than the end
-through_below : (n : ℕ) (p : Place) → ((q : ℕ) → p ≡ At q → q < n) → through p ≤ n
+through_below : (n : ℕ) (p : Option ℕ) → ((q : ℕ) → p ≡ Some q → q < n) → through p ≤ n
 unfolding through
-through_below n (At q) h = omega (arith, h q refl)
-through_below n Nowhere h = omega arith
+through_below n (Some q) h = omega (arith, h q refl)
+through_below n None h = omega arith
 
 pub through_within : (test : ℕ → Bool) (l : List ℕ) → through (last_place test l) ≤ length l
 through_within test l = through_below (length l) (last_place test l) (last_inside test l)
@@ -79,7 +69,7 @@ through_within test l = through_below (length l) (last_place test l) (last_insid
 -- behind it none passes, and itself it does
 module _ (test : ℕ → Bool) where
   behind_turn : (n p : ℕ) (b : Bool) → test n ≡ b → (through (last test n) ≤ p → p < n → test p ≡ false)
-      → through (cond b (At n) (last test n)) ≤ p → p < suc n → test p ≡ false
+      → through (cond b (Some n) (last test n)) ≤ p → p < suc n → test p ≡ false
   unfolding through
   behind_turn n p true t i h g = absurd (omega arith)
   behind_turn n p false t i h g =
@@ -90,8 +80,8 @@ module _ (test : ℕ → Bool) where
   last_behind zero p h g = absurd (omega arith)
   last_behind (suc n) p h g = behind_turn n p (test n) refl (last_behind n p) h g
 
-  passes_turn : (n : ℕ) (b : Bool) → test n ≡ b → (0 < through (last test n) → test (through (last test n) - 1) ≡ true) → 0 < through (cond b (At n) (last test n))
-      → test (through (cond b (At n) (last test n)) - 1) ≡ true
+  passes_turn : (n : ℕ) (b : Bool) → test n ≡ b → (0 < through (last test n) → test (through (last test n) - 1) ≡ true) → 0 < through (cond b (Some n) (last test n))
+      → test (through (cond b (Some n) (last test n)) - 1) ≡ true
   unfolding through
   passes_turn n true t i h = let m : n + 1 - 1 ≡ n = omega arith in ap test m ∙ t
   passes_turn n false t i h = i h

@@ -10,40 +10,44 @@ use lib.ListN.{length, get_or}
 use borrow.Author.Tests.{ltb-true, ltb-false, not-true, not-false}
 use Rattle.classes.specs.Classes.{is_white}
 use Rattle.reading.proofs.Places.{by_test}
+use Rattle.reading.specs.Bytes.{found}
+use Rattle.std.specs.Prelude.{Option, Some, None, is_some}
 use Rattle.utf8.specs.Utf8.{behind, characters, size, is_utf8, dark_lead, dark_end}
 use Rattle.utf8.proofs.Characters.{octets_below}
 use Rattle.utf8.proofs.Below.{unlike, space_below, character_below, characters_at, utf8_trails}
 use Rattle.utf8.proofs.Walks.{Walked, walked_none_yet, walked_up_to, walked_below, none_past, lead_white, lead_none, utf8_lead_within}
 use Rattle.fields.specs.Imap.{tag, is_append, dark, text_end}
-use Rattle.fields.specs.Runs.{runs, lead, last_place, through}
-use Rattle.fields.specs.declared.runs.Run.TheVariants.{Dark}
+use Rattle.fields.specs.Runs.{dark_byte, lead, last_place, through}
 use Rattle.fields.proofs.Led.{Led, led_none_yet, led_on, led_stop, led_all, lead_within}
 use Rattle.fields.proofs.Last.{last_behind, last_passes, through_within}
 
+pub found_some : (o : Option ℕ) → is_some o ≡ found o
+unfolding found
+found_some (Some p) = refl
+found_some None = refl
+
 -- ---- the tag
 
-tag_either : (l : List ℕ) {n : ℕ} → n ≡ lead Dark l → n ≡ dark_lead (characters l) → n ≡ tag l
+tag_either : (l : List ℕ) {n : ℕ} → n ≡ lead dark_byte l → n ≡ dark_lead (characters l) → n ≡ tag l
 unfolding tag
 tag_either l b t = by_test (is_utf8 l) (λ u. rw u t) (λ u. rw u b)
 
 -- it has come to i, and no byte up to there is white or above 127
 pub record Tagged (l : List ℕ) (i : ℕ) : Type 0 where
-  pub bytes : Led Dark l i
+  pub bytes : Led dark_byte l i
   pub text : Walked dark_lead l i
 
 pub tagged_none_yet : (l : List ℕ) → Tagged l 0
-tagged_none_yet l = record { bytes = led_none_yet Dark l; text = walked_none_yet dark_lead l }
+tagged_none_yet l = record { bytes = led_none_yet dark_byte l; text = walked_none_yet dark_lead l }
 
 module _ {l : List ℕ} {i : ℕ} (t : Tagged l i) where
   pub tagged_on : i < length l → get_or l i 0 ≤ 127 → is_white (get_or l i 0) ≡ false → Tagged l (i + 1)
-  unfolding runs
   tagged_on h s w =
       let on = led_on t.bytes h (ap not w) in
       record { bytes = on; text = walked_below t.text h (omega arith) (space_below (get_or l i 0) (omega arith) ∙ w) }
 
   -- white space ends it
   pub tagged_stop : i < length l → get_or l i 0 ≤ 127 → is_white (get_or l i 0) ≡ true → i ≡ tag l
-  unfolding runs
   tagged_stop h s w =
       let none = ap dark_lead (characters_at l i h (omega arith)) ∙ lead_white _ (space_below (get_or l i 0) (omega arith) ∙ w) _ in
       tag_either l (led_stop t.bytes h (ap not w)) (walked_up_to t.text none)
@@ -54,7 +58,7 @@ module _ {l : List ℕ} {i : ℕ} (t : Tagged l i) where
 
 pub tag_within : (l : List ℕ) → tag l ≤ length l
 unfolding tag
-tag_within l = by_test (is_utf8 l) (λ u. rw u (utf8_lead_within l u)) (λ u. rw u (lead_within Dark l))
+tag_within l = by_test (is_utf8 l) (λ u. rw u (utf8_lead_within l u)) (λ u. rw u (lead_within dark_byte l))
 
 -- ---- the end
 
@@ -94,8 +98,8 @@ unfolding text_end
 end_within l = by_test (is_utf8 l) (λ u. rw u (utf8_trails l u).inside) (λ u. rw u (through_within (dark l) l))
 
 -- ---- a line without a byte above 127: tag and end are document 01's
-ascii_lead : (l : List ℕ) → ((p : ℕ) → get_or l p 0 ≤ 127) → lead Dark l ≡ dark_lead (characters l)
-unfolding lead runs dark_lead
+ascii_lead : (l : List ℕ) → ((p : ℕ) → get_or l p 0 ≤ 127) → lead dark_byte l ≡ dark_lead (characters l)
+unfolding lead dark_lead
 ascii_lead [] h = sym (lead_none (none_past [] 0 (omega arith)))
 ascii_lead (b ∷ l) h =
     let s : b < 128 = omega (arith, h 0) in
@@ -104,7 +108,7 @@ ascii_lead (b ∷ l) h =
     (λ w. rw (cs, space_below b s, w))
     (λ w. rw (cs, space_below b s, w, octets_below b s) (ap (λ (n : ℕ). 1 + n) (ascii_lead l (λ p. h (suc p)))))
 
-pub as_before : (l : List ℕ) → ((p : ℕ) → get_or l p 0 ≤ 127) → (tag l ≡ lead Dark l) × (text_end l ≡ through (last_place (dark l) l))
+pub as_before : (l : List ℕ) → ((p : ℕ) → get_or l p 0 ≤ 127) → (tag l ≡ lead dark_byte l) × (text_end l ≡ through (last_place (dark l) l))
 as_before l h = (sym (tag_either l refl (ascii_lead l h)), sym (end_ascii l refl (λ _. h _)))
 
 -- an empty line is no append

@@ -1,21 +1,16 @@
 -- What a header line says: document 01, 'Mail', and document 02, W1. Ports the field tests of common.rs.
 -- Assumes nothing.
-use Rattle.std.specs.Prelude.{◌≡◌, Bool, true, false, cond, ◌&&◌, List, ◌++◌, ℕ, ◌+◌, ◌-◌, ◌≤◌, ltb, length, take, drop}
-use Rattle.std.proofs.Math.Option.{Option, none, some}
+use Rattle.std.specs.Prelude.{◌≡◌, Bool, true, false, cond, ◌&&◌, List, ◌++◌, ℕ, ◌+◌, ◌-◌, ◌≤◌, ltb, length, take, drop, Option, Some, None}
 use Rattle.events.specs.declared.Encoding.{Encoding}
 use Rattle.events.specs.declared.Encoding.TheVariants.{Unsaid, Bit7, Bit8, Binary, QuotedPrintable, Base64, Unrecognised}
-use Rattle.reading.specs.Bytes.{starts_with, same, ends_with, raised, first_place, holds, stands}
+use Rattle.reading.specs.Bytes.{starts_with, same, ends_with, raised, first_place, holds, stands, span}
 use Rattle.reading.specs.Reading.{crlf, dash}
 use Rattle.reading.specs.Text.{text}
-use Rattle.reading.specs.declared.Place.{Place}
-use Rattle.reading.specs.declared.Place.TheVariants.{At, Nowhere}
-use Rattle.fields.specs.Runs.{lead}
-use Rattle.fields.specs.declared.common.Bdry.{Bdry}
-use Rattle.fields.specs.declared.common.Bdry.TheVariants.{Unsupplied, Of}
+use Rattle.fields.specs.Runs.{space, bare, lead}
+use Rattle.reading.specs.declared.Span.{Span}
 use Rattle.fields.specs.declared.common.ContentType.{ContentType}
 use Rattle.fields.specs.declared.common.ContentType.TheVariants.{Other, Plain, Bounded}
 use Rattle.fields.specs.declared.common.Scan.{Scan}
-use Rattle.fields.specs.declared.runs.Run.TheVariants.{Spaces, Bare}
 
 -- ---- the encoding
 
@@ -34,7 +29,7 @@ encoding_named l =
 
 -- Content-Transfer-Encoding: (any case), spaces or none, the encoding
 unfoldable pub behind_spaces : List ℕ → List ℕ
-behind_spaces l = drop (lead Spaces l) l
+behind_spaces l = drop (lead space l) l
 
 unfoldable pub transfer_encoding : List ℕ → Encoding
 transfer_encoding l =
@@ -43,21 +38,21 @@ transfer_encoding l =
 -- ---- the boundary: where in the line it stands, and how long it is
 
 -- from o on, up to a required closing quote
-unfoldable pub closed : ℕ → Place → Bdry
-closed o (At n) = Of o n
-closed o Nowhere = Unsupplied
+unfoldable pub closed : ℕ → Option ℕ → Option Span
+closed o (Some n) = Some (span o n)
+closed o None = None
 
-unfoldable pub quoted : List ℕ → ℕ → Bdry
+unfoldable pub quoted : List ℕ → ℕ → Option Span
 quoted l o = closed o (first_place (holds 34 (drop o l)) (drop o l))
 
 -- from o on, up to ; space CR or the line's end
-unfoldable pub unquoted : List ℕ → ℕ → Bdry
-unquoted l o = Of o (lead Bare (drop o l))
+unfoldable pub unquoted : List ℕ → ℕ → Option Span
+unquoted l o = Some (span o (lead bare (drop o l)))
 
 -- a missing closing quote counts as no Content-Type
-unfoldable pub typed : Bdry → ContentType
-typed (Of o n) = Bounded o n
-typed Unsupplied = Other
+unfoldable pub typed : Option Span → ContentType
+typed (Some b) = Bounded b
+typed None = Other
 
 abbrev pub type_field : List ℕ
 type_field = text "Content-Type: "
@@ -69,18 +64,18 @@ abbrev pub quoted_name : List ℕ
 quoted_name = text "boundary=\""
 
 -- the first place in the line, behind its field name, where w stands
-unfoldable pub named : List ℕ → List ℕ → Place
+unfoldable pub named : List ℕ → List ℕ → Option ℕ
 named w l = first_place (stands w (drop (length type_field) l)) (drop (length type_field) l)
 
 -- the first boundary=, if there is one
-unfoldable pub bare_parameter : List ℕ → Place → ContentType
-bare_parameter l (At p) = typed (unquoted l (length type_field + p + length bare_name))
-bare_parameter l Nowhere = Plain
+unfoldable pub bare_parameter : List ℕ → Option ℕ → ContentType
+bare_parameter l (Some p) = typed (unquoted l (length type_field + p + length bare_name))
+bare_parameter l None = Plain
 
 -- the first boundary=", else the first boundary=
-unfoldable pub parameter : List ℕ → Place → ContentType
-parameter l (At p) = typed (quoted l (length type_field + p + length quoted_name))
-parameter l Nowhere = bare_parameter l (named bare_name l)
+unfoldable pub parameter : List ℕ → Option ℕ → ContentType
+parameter l (Some p) = typed (quoted l (length type_field + p + length quoted_name))
+parameter l None = bare_parameter l (named bare_name l)
 
 -- Content-Type: and a space, exactly; then always within the line
 unfoldable pub content_type : List ℕ → ContentType
@@ -90,11 +85,11 @@ abbrev pub tab : List ℕ
 tab = text "\t"
 
 -- a later line that opens with a tab and boundary=, quoted or not; there a missing closing quote supplies nothing
-unfoldable pub content_type_ext : List ℕ → Bdry
+unfoldable pub content_type_ext : List ℕ → Option Span
 content_type_ext l =
     cond (starts_with (tab ++ quoted_name) l) (quoted l (length (tab ++ quoted_name)))
     (cond (starts_with (tab ++ bare_name) l) (unquoted l (length (tab ++ bare_name)))
-    Unsupplied)
+    None)
 
 -- ---- the header scan: what is known after some lines
 pub record Known : Type 0 where
@@ -104,7 +99,7 @@ pub record Known : Type 0 where
 
 -- nothing yet
 abbrev pub unknown : Known
-unknown = record { encoding = Unsaid; type_seen = false; boundary = none }
+unknown = record { encoding = Unsaid; type_seen = false; boundary = None }
 
 -- W1: a valid one counts for more than one that is not recognised, and that for more than none
 abbrev pub rank : Encoding → ℕ
@@ -121,25 +116,33 @@ unfoldable pub first_encoding : Encoding → List ℕ → Encoding
 first_encoding e l = cond (ltb (rank e) (rank (transfer_encoding l))) (transfer_encoding l) e
 
 -- the bytes of a boundary in its line
-abbrev pub bytes_of : List ℕ → ℕ → ℕ → List ℕ
-bytes_of l o n = take n (drop o l)
+abbrev pub bytes_of : List ℕ → Span → List ℕ
+bytes_of l b = take b.len (drop b.at l)
 
 -- what a line says of the type, given whether Content-Type was seen
 unfoldable pub by_type : Encoding → Bool → List ℕ → ContentType → Known
-by_type e seen l Other = record { encoding = e; type_seen = seen; boundary = none }
-by_type e seen l Plain = record { encoding = e; type_seen = true; boundary = none }
-by_type e seen l (Bounded o n) = record { encoding = e; type_seen = true; boundary = some (bytes_of l o n) }
+by_type e seen l Other = record { encoding = e; type_seen = seen; boundary = None }
+by_type e seen l Plain = record { encoding = e; type_seen = true; boundary = None }
+by_type e seen l (Bounded b) = record { encoding = e; type_seen = true; boundary = Some (bytes_of l b) }
 
 -- Content-Type seen without a boundary lets a later line supply it
-unfoldable pub by_ext : Encoding → Bool → List ℕ → Bdry → Known
-by_ext e seen l (Of o n) = record { encoding = e; type_seen = seen; boundary = some (bytes_of l o n) }
-by_ext e seen l Unsupplied = by_type e seen l (content_type l)
+unfoldable pub by_ext : Encoding → Bool → List ℕ → Option Span → Known
+by_ext e seen l (Some b) = record { encoding = e; type_seen = seen; boundary = Some (bytes_of l b) }
+by_ext e seen l None = by_type e seen l (content_type l)
 
 -- the first line to supply a boundary wins
 unfoldable pub by_boundary : Encoding → Bool → Option (List ℕ) → List ℕ → Known
-by_boundary e seen (some b) l = record { encoding = e; type_seen = seen; boundary = some b }
-by_boundary e true none l = by_ext e true l (content_type_ext l)
-by_boundary e false none l = by_type e false l (content_type l)
+by_boundary e seen (Some b) l = record { encoding = e; type_seen = seen; boundary = Some b }
+by_boundary e true None l = by_ext e true l (content_type_ext l)
+by_boundary e false None l = by_type e false l (content_type l)
+
+-- what a line says of the type, by whether Content-Type was seen without a boundary
+unfoldable pub supplied : Option Span → ContentType → ContentType
+supplied (Some b) c = Bounded b
+supplied None c = c
+
+unfoldable pub said : Bool → List ℕ → ContentType
+said seen l = cond seen (supplied (content_type_ext l) (content_type l)) (content_type l)
 
 -- from what was known and one line to what is known now
 unfoldable pub scanned : Known → List ℕ → Known
@@ -150,13 +153,13 @@ unfoldable pub dash_bdry : List ℕ → List ℕ → Bool
 dash_bdry b l = starts_with (dash b) l && ends_with crlf l
 
 -- ---- what the code knows, a boundary being a place and a length in the header h
-abbrev pub bdry_bytes : List ℕ → Bdry → Option (List ℕ)
-bdry_bytes h Unsupplied = none
-bdry_bytes h (Of o n) = some (bytes_of h o n)
+abbrev pub bdry_bytes : List ℕ → Option Span → Option (List ℕ)
+bdry_bytes h None = None
+bdry_bytes h (Some b) = Some (bytes_of h b)
 
-abbrev pub Inside : List ℕ → Bdry → Type 0
-Inside h Unsupplied = Unit {0}
-Inside h (Of o n) = o + n ≤ length h
+abbrev pub Inside : List ℕ → Option Span → Type 0
+Inside h None = Unit {0}
+Inside h (Some b) = b.at + b.len ≤ length h
 
 abbrev pub known_of : List ℕ → Scan → Known
 known_of h k = record { encoding = k.encoding; type_seen = k.seen; boundary = bdry_bytes h k.boundary }

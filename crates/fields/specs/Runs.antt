@@ -1,41 +1,40 @@
 -- Runs of bytes at a list's start and end, and numbers written in digits.
 -- Assumes nothing.
-use Rattle.std.specs.Prelude.{Bool, cond, not, ◌||◌, List, [], ◌∷◌, ℕ, zero, suc, ◌+◌, ◌*◌, ◌-◌, eqb, leb, ltb, length, get_or}
-use Rattle.classes.specs.Classes.{is_white, is_blank, is_pop_white, is_digit}
-use Rattle.reading.specs.declared.Place.{Place}
-use Rattle.reading.specs.declared.Place.TheVariants.{At, Nowhere}
-use Rattle.fields.specs.declared.runs.Run.{Run}
-use Rattle.fields.specs.declared.runs.Run.TheVariants.{Spaces, Blanks, PopWhite, Digits, Dark, Bare}
-use Rattle.fields.specs.declared.runs.Number.{Number}
-use Rattle.fields.specs.declared.runs.Number.TheVariants.{Worth, TooBig}
+use Rattle.std.specs.Prelude.{◌≡◌, Bool, cond, not, ◌||◌, List, [], ◌∷◌, ℕ, zero, suc, ◌+◌, ◌*◌, ◌-◌, ◌<◌, eqb, leb, ltb, length, get_or, Option, Some, None}
+use Rattle.classes.specs.Classes.{is_white}
 
--- the bytes that a run is made of: spaces; blanks; pop white; digits; what is not white; what does not end an unquoted boundary
-unfoldable pub runs : Run → ℕ → Bool
-runs Spaces b = eqb b 32
-runs Blanks b = is_blank b
-runs PopWhite b = is_pop_white b
-runs Digits b = is_digit b
-runs Dark b = not (is_white b)
-runs Bare b = not (eqb b 59 || (eqb b 32 || eqb b 13))
+-- tests of a byte besides those of the classes: it is a space; it is not white; it does not end an unquoted boundary
+abbrev pub space : ℕ → Bool
+space b = eqb b 32
 
--- how many bytes a run has at the list's start
-unfoldable pub lead : Run → List ℕ → ℕ
-lead r [] = 0
-lead r (b ∷ l) = cond (runs r b) (1 + lead r l) 0
+abbrev pub dark_byte : ℕ → Bool
+dark_byte b = not (is_white b)
+
+abbrev pub bare : ℕ → Bool
+bare b = not (eqb b 59 || (eqb b 32 || eqb b 13))
+
+-- a function that answers as `post` says is the test of a byte
+abbrev pub Tests : (ℕ → Bool → Type 0) → (ℕ → Bool) → Type 0
+Tests post test = (b : ℕ) (r : Bool) → b < 256 → post b r → r ≡ test b
+
+-- how many bytes that pass the test stand at the list's start
+unfoldable pub lead : (ℕ → Bool) → List ℕ → ℕ
+lead test [] = 0
+lead test (b ∷ l) = cond (test b) (1 + lead test l) 0
 
 -- the last of the first n numbers that passes the test
-unfoldable pub last : (ℕ → Bool) → ℕ → Place
-last test zero = Nowhere
-last test (suc n) = cond (test n) (At n) (last test n)
+unfoldable pub last : (ℕ → Bool) → ℕ → Option ℕ
+last test zero = None
+last test (suc n) = cond (test n) (Some n) (last test n)
 
 -- the last place of l that passes the test
-unfoldable pub last_place : (ℕ → Bool) → List ℕ → Place
+unfoldable pub last_place : (ℕ → Bool) → List ℕ → Option ℕ
 last_place test l = last test (length l)
 
 -- the length up to a place's byte, that byte included
-unfoldable pub through : Place → ℕ
-through (At p) = p + 1
-through Nowhere = 0
+unfoldable pub through : Option ℕ → ℕ
+through (Some p) = p + 1
+through None = 0
 
 -- what digits are worth behind those that are worth n
 unfoldable pub worth_behind : ℕ → List ℕ → ℕ
@@ -51,5 +50,5 @@ unfoldable pub from_last : ℕ → List ℕ → ℕ
 from_last k l = cond (ltb k (length l)) (get_or l (length l - (k + 1)) 0 - 48) 0
 
 -- a number, if it is at most max
-unfoldable pub up_to : ℕ → ℕ → Number
-up_to max n = cond (leb n max) (Worth n) TooBig
+unfoldable pub up_to : ℕ → ℕ → Option ℕ
+up_to max n = cond (leb n max) (Some n) None

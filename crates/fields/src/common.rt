@@ -1,12 +1,11 @@
 // Header lines: encoding, boundary, and the header scan's step. Ports the line tests of common.rs.
 ghost use Rattle.std.specs.Prelude.{◌≡◌, ◌≤◌, length};
-ghost use Rattle.std.proofs.Math.Option.{none};
 ghost use Rattle.fields.specs.Common.{transfer_encoding, encoding_named, content_type, bare_parameter, named, type_field, bare_name, typed, content_type_ext, quoted, unquoted};
-ghost use Rattle.fields.specs.Common.{dash_bdry, rank, first_encoding, by_type, by_boundary, scanned, known_of, part, Says, Inside};
+ghost use Rattle.fields.specs.Common.{dash_bdry, rank, first_encoding, said, scanned, known_of, part, Says, Inside};
 
-use crate::runs::{Run, leading};
+use crate::runs::leading;
 use events::Encoding;
-use reading::Place;
+use reading::Span;
 
 // The lengths of `Content-Transfer-Encoding:`, of `Content-Type: `, of `boundary=` and `boundary="`, and of these two behind a tab.
 const ENCODING_FIELD: usize = 26;
@@ -21,18 +20,11 @@ const FOLDED_BARE: usize = 1 + BARE_NAME;
 
 const FOLDED_QUOTED: usize = 1 + QUOTED_NAME;
 
-// A boundary: its place in the part, and its length.
-#[derive(Clone, Copy)]
-pub enum Bdry {
-    Unsupplied,
-    Of(usize, usize),
-}
-
 #[derive(Clone, Copy)]
 pub enum ContentType {
     Other,
     Plain,
-    Bounded(usize, usize),
+    Bounded(Span),
 }
 
 // What a header's lines have said so far.
@@ -40,7 +32,7 @@ pub enum ContentType {
 pub struct Scan {
     pub encoding: Encoding,
     pub seen: bool,
-    pub boundary: Bdry,
+    pub boundary: Option<Span>,
 }
 
 // What is known after the line from `at` up to `end` of the header h.
@@ -48,60 +40,39 @@ pub fn scan_line(h: &[u8], at: usize, end: usize, known: Scan) -> Scan
     requires { (at ≤ end) × (end ≤ length h.now) × Inside h.now known.boundary }
     ensures { Says h.now (scanned (known_of h.now known) (part h.now at end)) result }
 {
-    let said = known.encoding;
-    let encoding = first_encoding(said, &h[at..end]);
-    let seen = known.seen;
-    let boundary = known.boundary;
-    match boundary {
-        Bdry::Of(o, n) => Scan {
-            encoding,
-            seen,
-            boundary: Bdry::Of(o, n),
-        },
-        Bdry::Unsupplied => supply(h, at, end, encoding, seen),
+    let encoding = first_encoding(known.encoding, &h[at..end]);
+    if known.boundary.is_some() {
+        return Scan { encoding, ..known };
     }
-}
-
-// While no line has supplied a boundary.
-fn supply(h: &[u8], at: usize, end: usize, encoding: Encoding, seen: bool) -> Scan
-    requires { (at ≤ end) × (end ≤ length h.now) }
-    ensures { Says h.now (by_boundary encoding seen none (part h.now at end)) result }
-{
-    if !seen {
-        return by_type(h, at, end, encoding, false);
-    }
-    match content_type_ext(&h[at..end]) {
-        Bdry::Of(o, n) => Scan {
-            encoding,
-            seen: true,
-            boundary: Bdry::Of(at + o, n),
-        },
-        Bdry::Unsupplied => by_type(h, at, end, encoding, true),
-    }
-}
-
-// By what the line says as a Content-Type.
-fn by_type(h: &[u8], at: usize, end: usize, encoding: Encoding, seen: bool) -> Scan
-    requires { (at ≤ end) × (end ≤ length h.now) }
-    ensures { Says h.now (by_type encoding seen (part h.now at end) (content_type (part h.now at end))) result }
-{
-    match content_type(&h[at..end]) {
-        ContentType::Other => Scan {
-            encoding,
-            seen,
-            boundary: Bdry::Unsupplied,
-        },
+    match said(&h[at..end], known.seen) {
+        ContentType::Other => Scan { encoding, ..known },
         ContentType::Plain => Scan {
             encoding,
             seen: true,
-            boundary: Bdry::Unsupplied,
+            ..known
         },
-        ContentType::Bounded(o, n) => Scan {
+        ContentType::Bounded(b) => Scan {
             encoding,
             seen: true,
-            boundary: Bdry::Of(at + o, n),
+            boundary: Some(Span {
+                at: at + b.at,
+                len: b.len,
+            }),
         },
     }
+}
+
+// What a line says of the type. Where Content-Type was seen without a boundary, a later line may supply it.
+#[tactic(auto, unfolding(crate::specs::Common::said, crate::specs::Common::supplied))]
+fn said(l: &[u8], seen: bool) -> ContentType
+    ensures { result ≡ said seen l.now }
+{
+    if seen {
+        if let Some(b) = content_type_ext(l) {
+            return ContentType::Bounded(b);
+        }
+    }
+    content_type(l)
 }
 
 // The first valid encoding counts; without one, that a line was not recognised. Behind a valid one no line is looked at.
@@ -124,12 +95,8 @@ fn rank(e: Encoding) -> u32
 {
     match e {
         Encoding::Unsaid => 0,
-        Encoding::Bit7 => 2,
-        Encoding::Bit8 => 2,
-        Encoding::Binary => 2,
-        Encoding::QuotedPrintable => 2,
-        Encoding::Base64 => 2,
         Encoding::Unrecognised => 1,
+        _ => 2,
     }
 }
 
@@ -139,30 +106,28 @@ pub fn transfer_encoding(l: &[u8]) -> Encoding
     if !reading::starts_with_any_case(l, b"Content-Transfer-Encoding:") {
         return Encoding::Unsaid;
     }
-    let name = ENCODING_FIELD + leading(&l[ENCODING_FIELD..], Run::Spaces);
+    let name = ENCODING_FIELD + leading(&l[ENCODING_FIELD..], |b| b == b' ');
     encoding_named(&l[name..])
 }
 
 // One of the five names and CRLF, or not recognised.
+#[tactic(auto, unfolding(crate::specs::Common::encoding_named))]
 fn encoding_named(l: &[u8]) -> Encoding
     ensures { result ≡ encoding_named l.now }
 {
     if reading::equals_any_case(l, b"7bit\r\n") {
-        return Encoding::Bit7;
+        Encoding::Bit7
+    } else if reading::equals_any_case(l, b"8bit\r\n") {
+        Encoding::Bit8
+    } else if reading::equals_any_case(l, b"binary\r\n") {
+        Encoding::Binary
+    } else if reading::equals_any_case(l, b"quoted-printable\r\n") {
+        Encoding::QuotedPrintable
+    } else if reading::equals_any_case(l, b"base64\r\n") {
+        Encoding::Base64
+    } else {
+        Encoding::Unrecognised
     }
-    if reading::equals_any_case(l, b"8bit\r\n") {
-        return Encoding::Bit8;
-    }
-    if reading::equals_any_case(l, b"binary\r\n") {
-        return Encoding::Binary;
-    }
-    if reading::equals_any_case(l, b"quoted-printable\r\n") {
-        return Encoding::QuotedPrintable;
-    }
-    if reading::equals_any_case(l, b"base64\r\n") {
-        return Encoding::Base64;
-    }
-    Encoding::Unrecognised
 }
 
 pub fn content_type(l: &[u8]) -> ContentType
@@ -172,8 +137,8 @@ pub fn content_type(l: &[u8]) -> ContentType
         return ContentType::Other;
     }
     match reading::find(&l[TYPE_FIELD..], b"boundary=\"") {
-        Place::At(p) => as_type(quoted(l, TYPE_FIELD + p + QUOTED_NAME)),
-        Place::Nowhere => bare_parameter(l),
+        Some(p) => as_type(quoted(l, TYPE_FIELD + p + QUOTED_NAME)),
+        None => bare_parameter(l),
     }
 }
 
@@ -183,21 +148,23 @@ fn bare_parameter(l: &[u8]) -> ContentType
     ensures { result ≡ bare_parameter l.now (named bare_name l.now) }
 {
     match reading::find(&l[TYPE_FIELD..], b"boundary=") {
-        Place::At(p) => as_type(unquoted(l, TYPE_FIELD + p + BARE_NAME)),
-        Place::Nowhere => ContentType::Plain,
+        Some(p) => as_type(unquoted(l, TYPE_FIELD + p + BARE_NAME)),
+        None => ContentType::Plain,
     }
 }
 
-fn as_type(b: Bdry) -> ContentType
+#[tactic(auto, unfolding(crate::specs::Common::typed))]
+fn as_type(b: Option<Span>) -> ContentType
     ensures { result ≡ typed b }
 {
     match b {
-        Bdry::Of(o, n) => ContentType::Bounded(o, n),
-        Bdry::Unsupplied => ContentType::Other,
+        Some(b) => ContentType::Bounded(b),
+        None => ContentType::Other,
     }
 }
 
-pub fn content_type_ext(l: &[u8]) -> Bdry
+#[tactic(auto, using(reading::proofs::Words::starts_long), unfolding(crate::specs::Common::content_type_ext))]
+pub fn content_type_ext(l: &[u8]) -> Option<Span>
     ensures { result ≡ content_type_ext l.now }
 {
     if reading::starts_with(l, b"\tboundary=\"") {
@@ -206,37 +173,34 @@ pub fn content_type_ext(l: &[u8]) -> Bdry
     if reading::starts_with(l, b"\tboundary=") {
         return unquoted(l, FOLDED_BARE);
     }
-    Bdry::Unsupplied
+    None
 }
 
 // From o up to a required closing quote.
-fn quoted(l: &[u8], o: usize) -> Bdry
+fn quoted(l: &[u8], o: usize) -> Option<Span>
     requires { o ≤ length l.now }
     ensures { result ≡ quoted l.now o }
 {
-    match reading::find_byte(&l[o..], b'"') {
-        Place::At(n) => Bdry::Of(o, n),
-        Place::Nowhere => Bdry::Unsupplied,
-    }
+    let len = reading::find_byte(&l[o..], b'"')?;
+    Some(Span { at: o, len })
 }
 
 // From o up to ; space CR or the end.
-fn unquoted(l: &[u8], o: usize) -> Bdry
+fn unquoted(l: &[u8], o: usize) -> Option<Span>
     requires { o ≤ length l.now }
     ensures { result ≡ unquoted l.now o }
 {
-    Bdry::Of(o, leading(&l[o..], Run::Bare))
+    let len = leading(&l[o..], |b| !matches!(b, b';' | b' ' | b'\r'));
+    Some(Span { at: o, len })
 }
 
 // A line of two hyphens and the boundary that ends in CRLF.
+#[tactic(auto, using(crate::proofs::Bdrys::dash_bdry_is, reading::proofs::Words::rest_is, reading::proofs::Words::starts_long))]
 pub fn dash_bdry(l: &[u8], b: &[u8]) -> bool
     ensures { result ≡ dash_bdry b.now l.now }
 {
     if !reading::starts_with(l, b"--") {
         return false;
     }
-    if !reading::starts_with(&l[2..], b) {
-        return false;
-    }
-    reading::ends_with(l, b"\r\n")
+    reading::starts_with(&l[2..], b) && reading::ends_with(l, b"\r\n")
 }

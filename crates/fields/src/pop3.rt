@@ -2,9 +2,9 @@
 ghost use Rattle.std.specs.Prelude.{◌≡◌, ◌*◌, ◌<◌, leb, length, get_or};
 ghost use Rattle.fields.specs.Pop3.{stls_answer, retr_answer, numbered, octets, octets_follow};
 ghost use Rattle.fields.specs.Runs.{lead, worth, from_last};
-ghost use Rattle.fields.specs.declared.runs.Run.TheVariants.{Digits};
+ghost use Rattle.classes.specs.Classes.{is_digit};
 
-use crate::runs::{Run, leading};
+use crate::runs::leading;
 
 // The length of `+OK`.
 const OK: usize = 3;
@@ -16,10 +16,7 @@ const FAR: u8 = 23;
 pub fn stls_answer(l: &[u8]) -> bool
     ensures { result ≡ stls_answer l.now }
 {
-    if !reading::starts_with(l, b"+OK") {
-        return false;
-    }
-    reading::contains_any_case(&l[OK..], b"tls")
+    reading::starts_with(l, b"+OK") && reading::contains_any_case(&l[OK..], b"tls")
 }
 
 // Whether a mail follows.
@@ -30,25 +27,19 @@ pub fn retr_answer(l: &[u8]) -> bool
         return false;
     }
     let rest = &l[OK..];
-    let start = leading(rest, Run::PopWhite);
-    if start == 0 {
-        return false;
-    }
-    numbered(&rest[start..])
+    let start = leading(rest, classes::is_pop_white);
+    0 < start && numbered(&rest[start..])
 }
 
 // Whether a number of octets opens it.
 fn numbered(l: &[u8]) -> bool
     ensures { result ≡ numbered l.now }
 {
-    let digits = leading(l, Run::Digits);
+    let digits = leading(l, classes::is_digit);
     if digits == 0 {
         return false;
     }
-    if !octets(&l[..digits]) {
-        return false;
-    }
-    octets_follow(&l[digits..])
+    octets(&l[..digits]) && octets_follow(&l[digits..])
 }
 
 // Whether digits are a number of octets. Zeros in front are dropped.
@@ -56,12 +47,10 @@ fn numbered(l: &[u8]) -> bool
 pub fn octets(digits: &[u8]) -> bool
     ensures { result ≡ octets digits.now }
 {
-    let mut zeros = 0;
-    while zeros < digits.len() {
-        if b'0' < digits[zeros] {
+    for (zeros, b) in digits.iter().enumerate() {
+        if b'0' < *b {
             return at_most(&digits[zeros..], b"4294967295");
         }
-        zeros += 1;
     }
     true
 }
@@ -70,16 +59,14 @@ pub fn octets(digits: &[u8]) -> bool
 // last, and 0 where it has no digit; `ahead` is by how much the other is ahead so far.
 #[tactic(auto, using(crate::proofs::Compared::longer))]
 fn at_most(number: &[u8], most: &[u8]) -> bool
-    requires { (48 < get_or number.now 0 0) × (lead Digits most.now ≡ length most.now) }
+    requires { (48 < get_or number.now 0 0) × (lead is_digit most.now ≡ length most.now) }
     ensures { result ≡ leb (worth number.now) (worth most.now) }
 {
     if most.len() < number.len() {
         return false;
     }
     let mut ahead = 0;
-    let mut left = most.len();
-    while 0 < left {
-        left -= 1;
+    for left in (0..most.len()).rev() {
         let have = tenfold(ahead) + from_last(most, left);
         let due = from_last(number, left);
         if have < due {
@@ -103,17 +90,14 @@ fn tenfold(n: u8) -> u8
 }
 
 // What the digit is worth that k others follow; 0 where there is none.
+#[tactic(auto, unfolding(crate::specs::Runs::from_last))]
 fn from_last(l: &[u8], k: usize) -> u8
     ensures { result ≡ from_last k l.now }
 {
     if l.len() <= k {
         return 0;
     }
-    let at = l.len() - (k + 1);
-    if l[at] < b'0' {
-        return 0;
-    }
-    l[at] - b'0'
+    l[l.len() - (k + 1)].saturating_sub(b'0')
 }
 
 // Whether white space and `octets` open it.
@@ -121,9 +105,6 @@ fn from_last(l: &[u8], k: usize) -> u8
 fn octets_follow(l: &[u8]) -> bool
     ensures { result ≡ octets_follow l.now }
 {
-    let white = leading(l, Run::PopWhite);
-    if white == 0 {
-        return false;
-    }
-    reading::starts_with(&l[white..], b"octets")
+    let white = leading(l, classes::is_pop_white);
+    0 < white && reading::starts_with(&l[white..], b"octets")
 }

@@ -2,7 +2,7 @@
 #![tactic(auto)]
 
 ghost use Rattle.std.specs.Prelude.{◌≡◌, false};
-ghost use Rattle.flat.specs.Flats.{flat, plain, flat_of, numbers_of, row, row_by, bit, mail_of, encoding_of, outcome_of, fields_of, heard_of, phase_by, phase_of, settings_of};
+ghost use Rattle.flat.specs.Flats.{flat, plain, flat_of, numbers_of, row, row_by, mail_of, encoding_of, outcome_of, fields_of, heard_of, phase_by, phase_of, settings_of};
 
 use events::{Encoding, Log, Outcome};
 use phases::{Heard, Phase};
@@ -27,39 +27,41 @@ pub struct Flat {
 pub fn numbers_of(settings: Settings, phase: Phase, at: usize, log: Log) -> [u64; 24]
     ensures { result ≡ numbers_of settings phase at log }
 {
-    row(settings, flat_of(phase), at, log)
+    row(settings, Flat::from(phase), at, log)
 }
 
-fn flat_of(phase: Phase) -> Flat
-    ensures { result ≡ flat_of phase }
-{
-    match phase {
-        Phase::Hello => plain(1, 0),
-        Phase::Second => plain(2, 0),
-        Phase::User => plain(3, 0),
-        Phase::Password => plain(4, 0),
-        Phase::Sender => plain(5, 0),
-        Phase::Seeking => plain(6, 0),
-        Phase::Recipient => plain(7, 0),
-        Phase::Reply => plain(8, 0),
-        Phase::Status => plain(9, 0),
-        Phase::Command => plain(10, 0),
-        Phase::Offered(size) => plain(11, size),
-        Phase::Closing => plain(12, 0),
-        Phase::Head(mail, heard, level) => in_head(mail, heard, level),
-        Phase::Text(mail, encoding) => in_body(14, mail, encoding, 0, 0, false),
-        Phase::Literal(encoding, from, left) => in_literal(encoding, from, left),
-        Phase::Preamble(mail, level, from, here) => {
-            in_body(16, mail, Encoding::Unsaid, level, from, here)
+impl From<Phase> for Flat {
+    fn from(phase: Phase) -> Self
+        ensures { result ≡ flat_of phase }
+    {
+        match phase {
+            Phase::Hello => plain(1, 0),
+            Phase::Second => plain(2, 0),
+            Phase::User => plain(3, 0),
+            Phase::Password => plain(4, 0),
+            Phase::Sender => plain(5, 0),
+            Phase::Seeking => plain(6, 0),
+            Phase::Recipient => plain(7, 0),
+            Phase::Reply => plain(8, 0),
+            Phase::Status => plain(9, 0),
+            Phase::Command => plain(10, 0),
+            Phase::Offered(size) => plain(11, size),
+            Phase::Closing => plain(12, 0),
+            Phase::Head(mail, heard, level) => in_head(mail, heard, level),
+            Phase::Text(mail, encoding) => in_body(14, mail, encoding, 0, 0, false),
+            Phase::Literal(encoding, from, left) => in_literal(encoding, from, left),
+            Phase::Preamble(mail, level, from, here) => {
+                in_body(16, mail, Encoding::Unsaid, level, from, here)
+            }
+            Phase::Opened(mail, level) => in_parts(17, mail, level, 0),
+            Phase::Content(mail, encoding, level, from, here) => {
+                in_body(18, mail, encoding, level, from, here)
+            }
+            Phase::Between(mail, level) => in_parts(19, mail, level, 0),
+            Phase::Skipping(mail, level) => in_parts(20, mail, level, 0),
+            Phase::Resting(mail, level, left) => in_parts(21, mail, level, left),
+            Phase::Over(result, place) => ended(result, place),
         }
-        Phase::Opened(mail, level) => in_parts(17, mail, level, 0),
-        Phase::Content(mail, encoding, level, from, here) => {
-            in_body(18, mail, encoding, level, from, here)
-        }
-        Phase::Between(mail, level) => in_parts(19, mail, level, 0),
-        Phase::Skipping(mail, level) => in_parts(20, mail, level, 0),
-        Phase::Resting(mail, level, left) => in_parts(21, mail, level, left),
-        Phase::Over(result, place) => ended(result, place),
     }
 }
 
@@ -82,17 +84,13 @@ fn plain(tag: u64, left: u64) -> Flat
 fn in_head(mail: Mail, heard: Heard, level: usize) -> Flat
     ensures { result ≡ flat 13 mail heard.encoding level 0 0 heard.seen heard.supplied Outcome.Done }
 {
-    let encoding = heard.encoding;
     Flat {
-        tag: 13,
         mail,
-        encoding,
+        encoding: heard.encoding,
         level,
-        from: 0,
-        left: 0,
         here: heard.seen,
         supplied: heard.supplied,
-        result: Outcome::Done,
+        ..plain(13, 0)
     }
 }
 
@@ -100,15 +98,12 @@ fn in_body(tag: u64, mail: Mail, encoding: Encoding, level: usize, from: usize, 
     ensures { result ≡ flat tag mail encoding level from 0 here false Outcome.Done }
 {
     Flat {
-        tag,
         mail,
         encoding,
         level,
         from,
-        left: 0,
         here,
-        supplied: false,
-        result: Outcome::Done,
+        ..plain(tag, 0)
     }
 }
 
@@ -116,15 +111,9 @@ fn in_literal(encoding: Encoding, from: usize, left: u64) -> Flat
     ensures { result ≡ flat 15 Mail.Smtp encoding 0 from left false false Outcome.Done }
 {
     Flat {
-        tag: 15,
-        mail: Mail::Smtp,
         encoding,
-        level: 0,
         from,
-        left,
-        here: false,
-        supplied: false,
-        result: Outcome::Done,
+        ..plain(15, left)
     }
 }
 
@@ -132,15 +121,9 @@ fn in_parts(tag: u64, mail: Mail, level: usize, left: u64) -> Flat
     ensures { result ≡ flat tag mail Encoding.Unsaid level 0 left false false Outcome.Done }
 {
     Flat {
-        tag,
         mail,
-        encoding: Encoding::Unsaid,
         level,
-        from: 0,
-        left,
-        here: false,
-        supplied: false,
-        result: Outcome::Done,
+        ..plain(tag, left)
     }
 }
 
@@ -148,23 +131,16 @@ fn ended(res: Outcome, place: usize) -> Flat
     ensures { result ≡ flat 22 Mail.Smtp Encoding.Unsaid 0 place 0 false false res }
 {
     Flat {
-        tag: 22,
-        mail: Mail::Smtp,
-        encoding: Encoding::Unsaid,
-        level: 0,
         from: place,
-        left: 0,
-        here: false,
-        supplied: false,
         result: res,
+        ..plain(22, 0)
     }
 }
 
 fn row(settings: Settings, f: Flat, at: usize, log: Log) -> [u64; 24]
     ensures { result ≡ row settings f at log }
 {
-    let mail = f.mail;
-    match mail {
+    match f.mail {
         Mail::Smtp => row_by(settings, f, 0, 0, 0, at, log),
         Mail::Pop3 => row_by(settings, f, 1, 0, 0, at, log),
         Mail::Imap(size, start) => row_by(settings, f, 2, size, start, at, log),
@@ -182,13 +158,6 @@ fn row_by(
 ) -> [u64; 24]
     ensures { result ≡ row_by settings f kind size start at log }
 {
-    let encoding = f.encoding;
-    let result = f.result;
-    let said = events::encoding_number(encoding) as u64;
-    let ends = events::result_number(result) as u64;
-    let here = bit(f.here);
-    let supplied = bit(f.supplied);
-    let strict = bit(settings.strict);
     [
         f.tag,
         at as u64,
@@ -196,14 +165,14 @@ fn row_by(
         kind,
         size,
         start as u64,
-        said,
+        u64::from(events::encoding_number(f.encoding)),
         f.level as u64,
         f.from as u64,
         f.left,
-        here,
-        supplied,
-        ends,
-        strict,
+        u64::from(f.here),
+        u64::from(f.supplied),
+        u64::from(events::result_number(f.result)),
+        u64::from(settings.strict),
         0,
         0,
         0,
@@ -217,51 +186,39 @@ fn row_by(
     ]
 }
 
-fn bit(b: bool) -> u64
-    ensures { result ≡ bit b }
-{
-    if b {
-        return 1;
-    }
-    0
-}
-
 // ---- and back: any numbers are some phase's
 
 pub fn phase_of(numbers: &[u64; 24]) -> Phase
     ensures { result ≡ phase_of numbers.now }
 {
-    phase_by(fields_of(numbers))
+    Phase::from(fields_of(numbers))
 }
 
 pub fn settings_of(numbers: &[u64; 24]) -> Settings
     ensures { result ≡ settings_of numbers.now }
 {
-    let strict = numbers[13] != 0;
-    Settings { strict }
+    Settings {
+        strict: numbers[13] != 0,
+    }
 }
 
 fn fields_of(numbers: &[u64; 24]) -> Flat
     ensures { result ≡ fields_of numbers.now }
 {
-    let mail = mail_of(numbers[3], numbers[4], numbers[5] as usize);
-    let encoding = encoding_of(numbers[6]);
-    let result = outcome_of(numbers[12]);
-    let here = numbers[10] != 0;
-    let supplied = numbers[11] != 0;
     Flat {
         tag: numbers[0],
-        mail,
-        encoding,
+        mail: mail_of(numbers[3], numbers[4], numbers[5] as usize),
+        encoding: encoding_of(numbers[6]),
         level: numbers[7] as usize,
         from: numbers[8] as usize,
         left: numbers[9],
-        here,
-        supplied,
-        result,
+        here: numbers[10] != 0,
+        supplied: numbers[11] != 0,
+        result: outcome_of(numbers[12]),
     }
 }
 
+#[tactic(auto, unfolding(crate::specs::Flats::mail_of))]
 fn mail_of(kind: u64, size: u64, start: usize) -> Mail
     ensures { result ≡ mail_of kind size start }
 {
@@ -272,6 +229,7 @@ fn mail_of(kind: u64, size: u64, start: usize) -> Mail
     }
 }
 
+#[tactic(auto, unfolding(crate::specs::Flats::encoding_of))]
 fn encoding_of(n: u64) -> Encoding
     ensures { result ≡ encoding_of n }
 {
@@ -286,6 +244,7 @@ fn encoding_of(n: u64) -> Encoding
     }
 }
 
+#[tactic(auto, unfolding(crate::specs::Flats::outcome_of))]
 fn outcome_of(n: u64) -> Outcome
     ensures { result ≡ outcome_of n }
 {
@@ -308,37 +267,36 @@ fn outcome_of(n: u64) -> Outcome
 }
 
 // What no phase has as its number is a session that is over because it was none.
-fn phase_by(f: Flat) -> Phase
-    ensures { result ≡ phase_by f }
-{
-    let mail = f.mail;
-    let encoding = f.encoding;
-    let result = f.result;
-    let tag = f.tag;
-    match tag {
-        1 => Phase::Hello,
-        2 => Phase::Second,
-        3 => Phase::User,
-        4 => Phase::Password,
-        5 => Phase::Sender,
-        6 => Phase::Seeking,
-        7 => Phase::Recipient,
-        8 => Phase::Reply,
-        9 => Phase::Status,
-        10 => Phase::Command,
-        11 => Phase::Offered(f.left),
-        12 => Phase::Closing,
-        13 => Phase::Head(mail, heard_of(encoding, f.here, f.supplied), f.level),
-        14 => Phase::Text(mail, encoding),
-        15 => Phase::Literal(encoding, f.from, f.left),
-        16 => Phase::Preamble(mail, f.level, f.from, f.here),
-        17 => Phase::Opened(mail, f.level),
-        18 => Phase::Content(mail, encoding, f.level, f.from, f.here),
-        19 => Phase::Between(mail, f.level),
-        20 => Phase::Skipping(mail, f.level),
-        21 => Phase::Resting(mail, f.level, f.left),
-        22 => Phase::Over(result, f.from),
-        _ => Phase::Over(Outcome::NoSession, 0),
+impl From<Flat> for Phase {
+    #[tactic(auto, unfolding(crate::specs::Flats::phase_by))]
+    fn from(f: Flat) -> Self
+        ensures { result ≡ phase_by f }
+    {
+        match f.tag {
+            1 => Phase::Hello,
+            2 => Phase::Second,
+            3 => Phase::User,
+            4 => Phase::Password,
+            5 => Phase::Sender,
+            6 => Phase::Seeking,
+            7 => Phase::Recipient,
+            8 => Phase::Reply,
+            9 => Phase::Status,
+            10 => Phase::Command,
+            11 => Phase::Offered(f.left),
+            12 => Phase::Closing,
+            13 => Phase::Head(f.mail, heard_of(f.encoding, f.here, f.supplied), f.level),
+            14 => Phase::Text(f.mail, f.encoding),
+            15 => Phase::Literal(f.encoding, f.from, f.left),
+            16 => Phase::Preamble(f.mail, f.level, f.from, f.here),
+            17 => Phase::Opened(f.mail, f.level),
+            18 => Phase::Content(f.mail, f.encoding, f.level, f.from, f.here),
+            19 => Phase::Between(f.mail, f.level),
+            20 => Phase::Skipping(f.mail, f.level),
+            21 => Phase::Resting(f.mail, f.level, f.left),
+            22 => Phase::Over(f.result, f.from),
+            _ => Phase::Over(Outcome::NoSession, 0),
+        }
     }
 }
 

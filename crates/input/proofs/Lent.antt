@@ -11,6 +11,9 @@ module _ (n : ℕ) (o u : List ℕ) (h : n ≤ length o) where
   pub lent : length u ≡ length (take n o) → n ≡ length (take n (u ++ drop n o))
   lent k = let e : length u ≡ n = k ∙ length-take-le n o h in sym (ap length (take_at u (drop n o) n e) ∙ e)
 
+  pub lent_front : length u ≡ length (take n o) → take n (u ++ drop n o) ≡ u
+  lent_front k = take_at u (drop n o) n (k ∙ length-take-le n o h)
+
   pub lent_room : length u ≡ length (take n o) → n ≤ length (u ++ drop n o)
   lent_room k = simp length-append (omega (arith, length-take-le n o h))
 

@@ -4,38 +4,28 @@
 ghost use Rattle.std.specs.Prelude.{length};
 ghost use Rattle.input.specs.Input.{within, Takes};
 
+use std::io;
 use std::io::Read;
 
-#[derive(Clone, Copy)]
-pub enum Input {
-    Bytes(usize),
-    Failed,
-}
-
 // Fills the buffer, as far as the input goes.
-pub fn fill<R: Read>(reader: &mut R, buf: &mut [u8]) -> Input
+pub fn fill<R: Read>(reader: &mut R, buf: &mut [u8]) -> io::Result<usize>
     ensures room { within result (length buf.new) }
     ensures bytes { Takes result (R.remaining reader.old) (R.remaining reader.new) buf.new }
 {
     let mut done = 0;
     while done < buf.len() {
-        match reader.read(&mut buf[done..]) {
-            Err(_) => return Input::Failed,
-            Ok(n) => {
-                if n == 0 {
-                    return Input::Bytes(done);
-                }
-                done += n;
-            }
+        let n = reader.read(&mut buf[done..])?;
+        if n == 0 {
+            return Ok(done);
         }
+        done += n;
     }
-    Input::Bytes(done)
+    Ok(done)
 }
 
 #[cfg(test)]
 mod tests {
     use super::*;
-    use std::io;
     use std::test::Fail;
 
     // Gives a byte at a time, so many of them, and then fails.
@@ -56,22 +46,14 @@ mod tests {
         }
     }
 
-    // How many bytes were read, if none of the reads failed.
-    fn count(input: Input) -> Option<usize> {
-        match input {
-            Input::Bytes(n) => Some(n),
-            Input::Failed => None,
-        }
-    }
-
     #[test]
     fn as_far_as_the_input_goes(rt: HostRuntime) -> Result<(), Fail> {
         let mut short: &[u8] = b"abc";
         let mut buf = [0u8; 5];
-        assert_eq!(rt; count(fill(&mut short, &mut buf)), Some(3));
+        assert_eq!(rt; fill(&mut short, &mut buf).ok(), Some(3));
         assert_eq!(rt; buf, [b'a', b'b', b'c', 0, 0]);
         let mut long: &[u8] = b"abcdefg";
-        assert_eq!(rt; count(fill(&mut long, &mut buf)), Some(5));
+        assert_eq!(rt; fill(&mut long, &mut buf).ok(), Some(5));
         assert_eq!(rt; buf, [b'a', b'b', b'c', b'd', b'e']);
         assert_eq!(rt; long.len(), 2);
         Ok(())
@@ -80,8 +62,8 @@ mod tests {
     #[test]
     fn a_failed_read_is_no_end(rt: HostRuntime) -> Result<(), Fail> {
         let mut buf = [0u8; 5];
-        assert_eq!(rt; count(fill(&mut Breaks(3), &mut buf)), None);
-        assert_eq!(rt; count(fill(&mut Breaks(5), &mut buf)), Some(5));
+        assert_eq!(rt; fill(&mut Breaks(3), &mut buf).ok(), None);
+        assert_eq!(rt; fill(&mut Breaks(5), &mut buf).ok(), Some(5));
         Ok(())
     }
 }

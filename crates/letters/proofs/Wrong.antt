@@ -7,17 +7,17 @@ use Prim.Native.Nat.{ℕ}
 use lib.ListN.{replicate}
 use Rattle.reading.proofs.Rows.{Row, ◌is-neither◌nor◌, met}
 use Rattle.reading.specs.Bytes.{starts_with, same}
+use Rattle.rules.specs.declared.Entry.{Entry}
 use Rattle.rules.specs.declared.Entry.TheVariants.{SmtpClient, SmtpServer, Pop3Server, ImapClient}
 use Rattle.letters.specs.Letters.{entry_of}
-use Rattle.letters.specs.declared.Letter.{Letter}
-use Rattle.letters.specs.declared.Letter.TheVariants.{Of, Other}
+use Rattle.std.specs.Prelude.{Option, Some, None}
 
-abbrev entered : Letter → List ℕ
-entered (Of SmtpClient) = 0 ∷ []
-entered (Of SmtpServer) = 1 ∷ []
-entered (Of Pop3Server) = 2 ∷ []
-entered (Of ImapClient) = 3 ∷ []
-entered Other = 4 ∷ []
+abbrev entered : Option Entry → List ℕ
+entered (Some SmtpClient) = 0 ∷ []
+entered (Some SmtpServer) = 1 ∷ []
+entered (Some Pop3Server) = 2 ∷ []
+entered (Some ImapClient) = 3 ∷ []
+entered None = 4 ∷ []
 
 abbrev rows : List Row
 rows =

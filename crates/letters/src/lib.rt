@@ -6,21 +6,15 @@ ghost use Rattle.letters.specs.Letters.{entry_of};
 
 use rules::Entry;
 
-#[derive(Clone, Copy)]
-pub enum Letter {
-    Of(Entry),
-    Other,
-}
-
 #[tactic(auto, unfolding(crate::specs::Letters::entry_of))]
-pub fn entry_of(letter: u8) -> Letter
+pub fn entry_of(letter: u8) -> Option<Entry>
     ensures { result ≡ entry_of letter }
 {
     match letter {
-        b'S' => Letter::Of(Entry::SmtpClient),
-        b's' => Letter::Of(Entry::SmtpServer),
-        b'P' => Letter::Of(Entry::Pop3Server),
-        b'I' => Letter::Of(Entry::ImapClient),
-        _ => Letter::Other,
+        b'S' => Some(Entry::SmtpClient),
+        b's' => Some(Entry::SmtpServer),
+        b'P' => Some(Entry::Pop3Server),
+        b'I' => Some(Entry::ImapClient),
+        _ => None,
     }
 }

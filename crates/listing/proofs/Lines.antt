@@ -9,7 +9,7 @@ use lib.ListN.{length, length-append}
 use Rattle.events.specs.Events.{numbers, result_number}
 use Rattle.events.specs.Table.{Final, event_at}
 use Rattle.listing.specs.Listing.{Pasted, word, line, event_lines, listing}
-use Rattle.listing.proofs.Pasted.{pasted_none, pasted_on, pasted_length, room_on}
+use Rattle.listing.proofs.Pasted.{pasted_none, pasted_on, room_on}
 use Rattle.listing.proofs.Spelled.{word_length}
 
 module _ {o u : List ℕ} {at r : ℕ} (a b : ℕ) (p : Pasted o at (word a b) r u) where
@@ -51,9 +51,6 @@ unfolding event_lines
 lined_none_yet {o} {t} {at} h = record { part = omega arith; puts = pasted_none o at; room = h }
 
 module _ {o t u : List ℕ} {at n i e : ℕ} (l : Lined o at t n i e u) where
-  pub lined_length : length u ≡ length o
-  lined_length = pasted_length l.puts (omega (arith, lines_length i t, l.part, l.room))
-
   pub lined_room : i < n → e + 84 ≤ length u
   lined_room h = room_on l.puts (84 * i) 84 (lines_length i t) (omega (arith, l.room))
 

@@ -5,8 +5,8 @@ use mathlib.Core.List.{List, [], ◌∷◌, ◌++◌, append_assoc}
 use Prim.Native.Nat.{ℕ, suc, ◌+◌, ◌≤◌, ◌<◌}
 use native.Mathlib.Numerals.{add-one}
 use native.Mathlib.Omega.{arith}
-use lib.ListN.{length, take, drop, set, get_or, length-append}
-use lib.Seq.{set_split, append_snoc, paste, paste-zero, paste-suc, length-paste, take-paste, drop-paste, drop-drop, take-length}
+use lib.ListN.{length, take, drop, set, length-append}
+use lib.Seq.{set_split, append_snoc, paste, paste-zero, length-paste, take-paste, drop-paste, drop-drop, take-length}
 use Rattle.listing.specs.Listing.{Pasted}
 
 paste_paste : (o : List ℕ) (at : ℕ) (t s : List ℕ) → at ≤ length o
@@ -47,26 +47,3 @@ pasted_one o at b h = record {
   end = refl;
   is = set_split o at b h ∙ sym (append_snoc (take at o) b (drop (suc at) o)) ∙ ap (λ (k : ℕ). take at o ++ (b ∷ []) ++ drop k o) (sym (add-one at));
 }
-
--- the first i bytes of the text t stand in u
-pub record Copied (o : List ℕ) (at : ℕ) (t : List ℕ) (i : ℕ) (u : List ℕ) : Type 0 where
-  pub part : i ≤ length t
-  pub is : u ≡ paste o at t i
-  pub room : at + length t ≤ length o
-
-pub copied_none_yet : {o t : List ℕ} {at : ℕ} → at + length t ≤ length o → Copied o at t 0 o
-copied_none_yet {o} {t} {at} h = record { part = omega arith; is = paste-zero o at t; room = h }
-
-module _ {o t u : List ℕ} {at i : ℕ} (c : Copied o at t i u) where
-  pub copied_length : length u ≡ length o
-  copied_length = ap length c.is ∙ length-paste o at t i (omega (arith, c.part, c.room)) c.part
-
-  pub copied_on : i < length t → Copied o at t (i + 1) (set u (at + i) (get_or t i 0))
-  copied_on h = record {
-    part = omega arith;
-    is = rw (c.is, add-one) (paste-suc o at t i 0 (omega (arith, c.room)) h);
-    room = c.room;
-  }
-
-  pub copied_all : length t ≤ i → Pasted o at t (at + i) u
-  copied_all h = let e : i ≡ length t = omega (arith, c.part) in record { end = ap (◌+◌ at) e; is = rw e at c.is }

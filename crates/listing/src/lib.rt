@@ -27,10 +27,8 @@ fn event_lines(out: &mut [u8], at: usize, table: &[u32], n: usize) -> usize
     ensures { Pasted out.old at (event_lines n table.now) result out.new }
 {
     let mut end = at;
-    let mut i = 0;
-    while i < n {
+    for i in 0..n {
         end = event_line(out, end, table, i);
-        i += 1;
     }
     end
 }
@@ -41,27 +39,20 @@ fn event_line(out: &mut [u8], at: usize, table: &[u32], i: usize) -> usize
     ensures { Pasted out.old at (line (numbers (event_at table.now i))) result out.new }
 {
     let from = i * WIDTH;
-    let kind = small(out, at, table[from], b' ');
-    let offset = small(out, kind, table[from + 1], b' ');
-    let length = small(out, offset, table[from + 2], b' ');
-    small(out, length, table[from + 3], b'\n')
+    let kind = word(out, at, table[from] as u64, b' ');
+    let offset = word(out, kind, table[from + 1] as u64, b' ');
+    let length = word(out, offset, table[from + 2] as u64, b' ');
+    word(out, length, table[from + 3] as u64, b'\n')
 }
 
 fn last_line(out: &mut [u8], at: usize, answer: Answer) -> usize
     requires { at + 63 ≤ length out.old }
     ensures { Pasted out.old at (line (result_number answer.result ∷ answer.place ∷ answer.count ∷ [])) result out.new }
 {
-    let outcome = answer.result;
-    let result = small(out, at, events::result_number(outcome), b' ');
+    let number = events::result_number(answer.result);
+    let result = word(out, at, number as u64, b' ');
     let place = word(out, result, answer.place as u64, b' ');
     word(out, place, answer.count as u64, b'\n')
-}
-
-fn small(out: &mut [u8], at: usize, n: u32, behind: u8) -> usize
-    requires { at + 21 ≤ length out.old }
-    ensures { Pasted out.old at (word n behind) result out.new }
-{
-    word(out, at, n as u64, behind)
 }
 
 // A number's decimal digits, and a byte behind them.
@@ -81,10 +72,7 @@ pub fn put(out: &mut [u8], at: usize, text: &[u8]) -> usize
     requires { at + length text.now ≤ length out.old }
     ensures { Pasted out.old at text.now result out.new }
 {
-    let mut i = 0;
-    while i < text.len() {
-        out[at + i] = text[i];
-        i += 1;
-    }
-    at + i
+    let end = at + text.len();
+    out[at..end].copy_from_slice(text);
+    end
 }

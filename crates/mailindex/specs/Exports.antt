@@ -1,6 +1,6 @@
 -- What a caller in C gets: the table, an answer's numbers, and a session between windows as numbers.
 -- Assumes nothing.
-use Rattle.std.specs.Prelude.{◌≡◌, Bool, true, false, cond, not, ◌&&◌, List, [], ◌∷◌, ℕ, zero, suc, eqb, get_or, replicate}
+use Rattle.std.specs.Prelude.{◌≡◌, Bool, true, false, cond, not, ◌&&◌, List, [], ◌∷◌, ℕ, zero, suc, eqb, get_or, replicate, Option, Some, None}
 use Rattle.direction.specs.Direction.{Side, side}
 use Rattle.events.specs.Events.{result_number}
 use Rattle.events.specs.Table.{Final}
@@ -14,7 +14,6 @@ use Rattle.tap.specs.Tapping.{Begun, Shows, session_with}
 use Rattle.tap.specs.declared.Session.{Session}
 use Rattle.tap.specs.declared.Shown.{Shown}
 use Rattle.mailindex.specs.declared.Chosen.{Chosen}
-use Rattle.mailindex.specs.declared.Chosen.TheVariants as chose
 
 -- MAILINDEX_VERSION of include/mailindex.h
 abbrev pub version : ℕ
@@ -55,21 +54,25 @@ unset cs zero = true
 unset cs (suc zero) = true
 unset cs (suc (suc i)) = eqb (get_or cs (suc (suc i)) 0) 0 && unset cs (suc i)
 
-unfoldable pub entry_by : ℕ → Settings → Chosen
-entry_by n set =
-    cond (eqb n 1) (chose.Of SmtpClient set)
-    (cond (eqb n 2) (chose.Of SmtpServer set)
-    (cond (eqb n 3) (chose.Of Pop3Server set)
-    (cond (eqb n 4) (chose.Of ImapClient set)
-    chose.None)))
+unfoldable pub entry_by : ℕ → Option Entry
+entry_by n =
+    cond (eqb n 1) (Some SmtpClient)
+    (cond (eqb n 2) (Some SmtpServer)
+    (cond (eqb n 3) (Some Pop3Server)
+    (cond (eqb n 4) (Some ImapClient)
+    None)))
+
+abbrev pub with_strict : Bool → Option Entry → Option Chosen
+with_strict b (Some e) = Some (record { entry = e; settings = record { strict = b } })
+with_strict b None = None
 
 -- the strict setting is off or on
-unfoldable pub strict_by : ℕ → ℕ → Chosen
-strict_by n e = cond (eqb n 0) (entry_by e (record { strict = false })) (cond (eqb n 1) (entry_by e (record { strict = true })) chose.None)
+unfoldable pub strict_by : ℕ → ℕ → Option Chosen
+strict_by n e = cond (eqb n 0) (with_strict false (entry_by e)) (cond (eqb n 1) (with_strict true (entry_by e)) None)
 
 -- choice 0 is the entry, choice 1 the strict setting; the six others have no name yet
-abbrev pub chosen : List ℕ → Chosen
-chosen cs = cond (unset cs 7) (strict_by (get_or cs 1 0) (get_or cs 0 0)) chose.None
+abbrev pub chosen : List ℕ → Option Chosen
+chosen cs = cond (unset cs 7) (strict_by (get_or cs 1 0) (get_or cs 0 0)) None
 
 -- a session of the entry e with these settings is begun, and held; r says that it waits for bytes
 pub record BeginsWith (set : Settings) (e : Entry) (ns k : List ℕ) (r : ℕ) : Type 0 where
@@ -84,9 +87,9 @@ pub record BeginsNone (ns k : List ℕ) (r : ℕ) : Type 0 where
   pub copies : k ≡ replicate 648 0
   pub result : r ≡ result_number NoSession
 
-abbrev pub Begins : Chosen → List ℕ → List ℕ → ℕ → Type 0
-Begins (chose.Of e set) ns k r = BeginsWith set e ns k r
-Begins chose.None ns k r = BeginsNone ns k r
+abbrev pub Begins : Option Chosen → List ℕ → List ℕ → ℕ → Type 0
+Begins (Some c) ns k r = BeginsWith c.settings c.entry ns k r
+Begins None ns k r = BeginsNone ns k r
 
 -- result, place, count and how many bytes were taken
 abbrev pub shown_of : Answer → ℕ → List ℕ

@@ -13,9 +13,9 @@ const VERSION: u32 = 4;
 
 // The entry and the settings that a session's choices name.
 #[derive(Clone, Copy)]
-pub enum Chosen {
-    Of(Entry, Settings),
-    None,
+pub struct Chosen {
+    pub entry: Entry,
+    pub settings: Settings,
 }
 
 // Begins a session: what C holds of it is its numbers and the copies of its open boundaries.
@@ -26,22 +26,16 @@ pub fn mailindex_begin(
 ) -> u32
     ensures { Begins (chosen choices.now) numbers.new boundaries.new result }
 {
-    match choice_of(choices) {
-        Chosen::None => {
-            *numbers = [0; 24];
-            *boundaries = [0; 648];
-            events::result_number(Outcome::NoSession)
-        }
-        Chosen::Of(entry, settings) => {
-            let session = tap::begin(entry, settings);
-            let phase = session.phase;
-            let log = session.log;
-            let copies = session.boundaries;
-            *numbers = flat::numbers_of(settings, phase, session.at, log);
-            *boundaries = copies;
-            events::result_number(Outcome::Incomplete)
-        }
-    }
+    let Some(chosen) = choice_of(choices) else {
+        *numbers = [0; 24];
+        *boundaries = [0; 648];
+        return events::result_number(Outcome::NoSession);
+    };
+    let session = tap::begin(chosen.entry, chosen.settings);
+    *numbers = flat::numbers_of(chosen.settings, session.phase, session.at, session.log);
+    let copies = session.boundaries;
+    *boundaries = copies;
+    events::result_number(Outcome::Incomplete)
 }
 
 // Shows it a window: result, place, count and how many bytes were taken.
@@ -62,48 +56,48 @@ pub fn mailindex_show(
         count: numbers[2] as usize,
     };
     let seen = tap::show_lent(settings, phase, at, log, boundaries, w, table);
-    let phase = seen.phase;
-    let log = seen.log;
-    let said = seen.answer;
-    *numbers = flat::numbers_of(settings, phase, seen.at, log);
-    *answer = shown_numbers(said, seen.taken);
+    *numbers = flat::numbers_of(settings, seen.phase, seen.at, seen.log);
+    *answer = shown_numbers(seen.answer, seen.taken);
 }
 
 // The entry at index 0, the strict setting at index 1; the other choices have no name yet, and are 0.
-fn choice_of(choices: &[u64; 8]) -> Chosen
+#[tactic(auto, unfolding(crate::specs::Exports::strict_by))]
+fn choice_of(choices: &[u64; 8]) -> Option<Chosen>
     ensures { result ≡ chosen choices.now }
 {
     if !rest_unset(choices) {
-        return Chosen::None;
+        return None;
     }
-    match choices[1] {
-        0 => entry_of(choices[0], Settings { strict: false }),
-        1 => entry_of(choices[0], Settings { strict: true }),
-        _ => Chosen::None,
-    }
+    let strict = match choices[1] {
+        0 => false,
+        1 => true,
+        _ => return None,
+    };
+    let entry = entry_of(choices[0])?;
+    let settings = Settings { strict };
+    Some(Chosen { entry, settings })
 }
 
-fn entry_of(n: u64, settings: Settings) -> Chosen
-    ensures { result ≡ entry_by n settings }
+#[tactic(auto, unfolding(crate::specs::Exports::entry_by))]
+fn entry_of(n: u64) -> Option<Entry>
+    ensures { result ≡ entry_by n }
 {
     match n {
-        1 => Chosen::Of(Entry::SmtpClient, settings),
-        2 => Chosen::Of(Entry::SmtpServer, settings),
-        3 => Chosen::Of(Entry::Pop3Server, settings),
-        4 => Chosen::Of(Entry::ImapClient, settings),
-        _ => Chosen::None,
+        1 => Some(Entry::SmtpClient),
+        2 => Some(Entry::SmtpServer),
+        3 => Some(Entry::Pop3Server),
+        4 => Some(Entry::ImapClient),
+        _ => None,
     }
 }
 
 fn rest_unset(choices: &[u64; 8]) -> bool
     ensures { result ≡ unset choices.now 7 }
 {
-    let mut i = 7;
-    while 1 < i {
+    for i in (2..8).rev() {
         if choices[i] != 0 {
             return false;
         }
-        i -= 1;
     }
     true
 }
@@ -111,9 +105,8 @@ fn rest_unset(choices: &[u64; 8]) -> bool
 fn shown_numbers(a: Answer, taken: usize) -> [u64; 4]
     ensures { result ≡ shown_of a taken }
 {
-    let result = a.result;
     [
-        events::result_number(result) as u64,
+        events::result_number(a.result) as u64,
         a.place as u64,
         a.count as u64,
         taken as u64,
@@ -178,9 +171,8 @@ pub fn mailindex_version() -> u32
 fn numbers(a: Answer) -> [u64; 3]
     ensures { result ≡ numbers_of a }
 {
-    let result = a.result;
     [
-        events::result_number(result) as u64,
+        events::result_number(a.result) as u64,
         a.place as u64,
         a.count as u64,
     ]

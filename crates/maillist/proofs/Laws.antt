@@ -9,15 +9,11 @@ use lib.ListN.{length, take, drop, get_or, replicate, length-replicate, length-a
 use lib.Seq.{length-take-le, take-paste, take-length}
 use borrow.Author.Tests.{lt-ltb, le-ltb, ltb-true, ltb-false}
 use Rattle.std.proofs.Common.{None, Some, IfSome, OnOk, Ok, Err, Result, Option}
-use Rattle.std.specs.Io.KnownBytes.{Appends}
-use Rattle.input.specs.Input.{Takes}
-use Rattle.input.specs.declared.Input.TheVariants.{Bytes}
-use Rattle.letters.specs.declared.Letter.{Letter}
+use Rattle.std.specs.Io.KnownBytes.{Appends, Consumes, IsAtEnd}
 use Rattle.reading.proofs.Places.{by_test}
 use Rattle.letters.specs.Letters.{entry_of}
 use Rattle.rules.specs.Sessions.{answer_of}
 use Rattle.rules.specs.declared.Entry.{Entry}
-use Rattle.letters.specs.declared.Letter.TheVariants.{Of, Other}
 use Rattle.events.specs.Table.{Final}
 use Rattle.listing.proofs.Lines.{listing_length}
 use Rattle.listing.proofs.Pasted.{pasted_length}
@@ -71,19 +67,19 @@ some_printed [] h = absurd (h refl)
 some_printed (b ∷ l) h = refl
 
 module _ {o u : List ℕ} {r : ℕ} (l : List ℕ) (h : length l ≡ 0 → ⊥) where
-  pub bad_printed : entry_of (get_or l 0 0) ≡ Other → 258111 ≤ length o → Pasted o 0 (text "bad\n") r u → Prints o (printed l) r u
+  pub bad_printed : entry_of (get_or l 0 0) ≡ None → 258111 ≤ length o → Pasted o 0 (text "bad\n") r u → Prints o (printed l) r u
   unfolding by_letter
   bad_printed e room p = rw (some_printed l h, e) (prints p (omega arith))
 
-  pub entry_printed : (e : Entry) → entry_of (get_or l 0 0) ≡ Of e → Prints o (listed e (drop 1 l)) r u → Prints o (printed l) r u
+  pub entry_printed : (e : Entry) → entry_of (get_or l 0 0) ≡ Some e → Prints o (listed e (drop 1 l)) r u → Prints o (printed l) r u
   unfolding by_letter
   entry_printed e w p = rw (some_printed l h, w) p
 
 -- ---- an input that was read as far as there is room: bytes behind these change nothing
-by_letter_long : (l : Letter) (s t : List ℕ) → 3072 < length s → 3072 < length t → by_letter l s ≡ by_letter l t
+by_letter_long : (l : Option Entry) (s t : List ℕ) → 3072 < length s → 3072 < length t → by_letter l s ≡ by_letter l t
 unfolding by_letter listed
-by_letter_long (Of e) s t h k = rw (lt-ltb 3072 (length s) h, lt-ltb 3072 (length t) k)
-by_letter_long Other s t h k = refl
+by_letter_long (Some e) s t h k = rw (lt-ltb 3072 (length s) h, lt-ltb 3072 (length t) k)
+by_letter_long None s t h k = refl
 
 long_same : (l m : List ℕ) → 3074 ≤ length l → printed (l ++ m) ≡ printed l
 unfolding printed
@@ -95,7 +91,11 @@ front_printed l f m e h =
     by_test (ltb (length f) 3074) (λ t. ap printed (e ∙ ap (◌++◌ f) (h (ltb-true (length f) 3074 t)) ∙ append-nil f))
     (λ t. ap printed e ∙ long_same f m (ltb-false (length f) 3074 t))
 
-read_printed : (a b : Option (List ℕ)) (n : ℕ) (u : List ℕ) (P : List ℕ → Type 0) → length u ≡ 3074 → n ≤ length u → Takes (Bytes n) a b u
+-- n bytes were taken, and where there are fewer than the buffer holds, no byte is left
+abbrev Taken : ℕ → Option (List ℕ) → Option (List ℕ) → List ℕ → Type 0
+Taken n a b u = Consumes a b (take n u) × (n < length u → IsAtEnd b)
+
+read_printed : (a b : Option (List ℕ)) (n : ℕ) (u : List ℕ) (P : List ℕ → Type 0) → length u ≡ 3074 → n ≤ length u → Taken n a b u
     → P (printed (take n u)) → IfSome a (λ l. P (printed l))
 read_printed None b n u P k w h p = tt
 read_printed (Some l) None n u P k w h p = absurd h.0
@@ -103,7 +103,7 @@ read_printed (Some l) (Some m) n u P k w h p =
     let long : length (take n u) ≡ n = length-take-le n u w in
     subst P (sym (front_printed l (take n u) m h.0 (λ q. h.1 (omega arith)))) p
 
-pub all_printed : {E : Type 0} (a b v x : Option (List ℕ)) (n : ℕ) (u : List ℕ) (r : Result (Unit {0}) E) → length u ≡ 3074 → n ≤ length u → Takes (Bytes n) a b u
+pub all_printed : {E : Type 0} (a b v x : Option (List ℕ)) (n : ℕ) (u : List ℕ) (r : Result (Unit {0}) E) → length u ≡ 3074 → n ≤ length u → Taken n a b u
     → OnOk r (Appends v x (printed (take n u))) → OnOk r (IfSome a (λ l. Appends v x (printed l)))
 all_printed a b v x n u (Ok y) k w h p = read_printed a b n u (Appends v x) k w h p
 all_printed a b v x n u (Err e) k w h p = tt

@@ -1,11 +1,9 @@
 -- What the program prints: document 01, 'Sessions to check'.
 -- Assumes nothing.
-use Rattle.std.specs.Prelude.{cond, List, [], ◌∷◌, ℕ, ◌*◌, ◌≤◌, ltb, length, replicate}
+use Rattle.std.specs.Prelude.{cond, List, [], ◌∷◌, ℕ, ◌*◌, ◌≤◌, ltb, length, replicate, Option, Some, None}
 use Rattle.letters.specs.Letters.{entry_of}
 use Rattle.rules.specs.Sessions.{answer_of}
 use Rattle.rules.specs.declared.Entry.{Entry}
-use Rattle.letters.specs.declared.Letter.{Letter}
-use Rattle.letters.specs.declared.Letter.TheVariants.{Of, Other}
 use Rattle.listing.specs.Listing.{Pasted, listing}
 use Rattle.reading.specs.Text.{text}
 
@@ -16,9 +14,9 @@ longest = 3072
 unfoldable pub listed : Entry → List ℕ → List ℕ
 listed e s = cond (ltb longest (length s)) (text "long\n") (listing (answer_of e (replicate (4 * length s) 0) s))
 
-unfoldable pub by_letter : Letter → List ℕ → List ℕ
-by_letter (Of e) s = listed e s
-by_letter Other s = text "bad\n"
+unfoldable pub by_letter : Option Entry → List ℕ → List ℕ
+by_letter (Some e) s = listed e s
+by_letter None s = text "bad\n"
 
 -- with no valid first byte, tested first, only `bad`
 unfoldable pub printed : List ℕ → List ℕ

@@ -6,8 +6,6 @@ ghost use Rattle.std.specs.Prelude.{◌≡◌, ◌≤◌, length, replicate, OnO
 ghost use Rattle.std.specs.Io.KnownBytes.{Appends};
 ghost use Rattle.maillist.specs.Maillist.{Prints, printed, listed};
 
-use input::Input;
-use letters::Letter;
 use rules::Entry;
 use std::io;
 use std::io::{Error, Read, Write};
@@ -31,10 +29,10 @@ fn run<R: Read, W: Write>(reader: &mut R, writer: &mut W) -> io::Result<()>
     ensures { OnOk result (IfSome (R.remaining reader.old) (λ xs. Appends (W.contents writer.old) (W.contents writer.new) (printed xs))) }
 {
     let mut bytes = [0u8; INPUT];
-    match input::fill(reader, &mut bytes) {
-        Input::Failed => Err(Error::other("standard input")),
-        Input::Bytes(n) => print(writer, &bytes[..n]),
-    }
+    let Ok(n) = input::fill(reader, &mut bytes) else {
+        return Err(Error::other("standard input"));
+    };
+    print(writer, &bytes[..n])
 }
 
 // Writes what the program prints on an input.
@@ -55,8 +53,8 @@ fn answer(input: &[u8], out: &mut [u8]) -> usize
         return listing::put(out, 0, b"bad\n");
     }
     match letters::entry_of(input[0]) {
-        Letter::Other => listing::put(out, 0, b"bad\n"),
-        Letter::Of(entry) => list(entry, &input[1..], out),
+        None => listing::put(out, 0, b"bad\n"),
+        Some(entry) => list(entry, &input[1..], out),
     }
 }
 

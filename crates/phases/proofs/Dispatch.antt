@@ -21,12 +21,10 @@ use Rattle.rules.specs.declared.Settings.{Settings}
 use Rattle.windows.proofs.Cut.{over_stays}
 use Rattle.windows.specs.Stands.{fresh, stand_result}
 use Rattle.windows.specs.Windows.{over, keeps, landed, lands}
-use Rattle.phases.proofs.Turning.{came_goes}
-use Rattle.phases.specs.Phasing.{Slots, state_of, Fits, Came, Goes, Ready, Turned, Went}
+use Rattle.phases.specs.Phasing.{Slots, state_of, Fits, Came, Goes, Ready}
 use Rattle.phases.specs.declared.Heard.{Heard}
 use Rattle.phases.specs.declared.Phase.TheVariants as is
 use Rattle.phases.specs.declared.Spot.{Spot}
-use Rattle.phases.specs.declared.Turn.TheVariants as turn
 
 -- ---- the numbers that a phase holds
 module _ {w : List ℕ} {base : ℕ} {k : List ℕ} {s : Spot} (h : Ready w base k s) where
@@ -85,22 +83,3 @@ pub record Arrived (set : Settings) (w : List ℕ) (base : ℕ) (k₀ t₀ : Lis
   pub came : Came set w base s₀.taken t₀ s₀.log (state_of k₀ s₀.phase) s.taken t s.log (state_of k s.phase)
   pub as_many : length k ≡ length k₀
   pub long : length t ≡ length t₀
-
-pub arrived : {set : Settings} {w : List ℕ} {base : ℕ} {k t : List ℕ} {s : Spot} → Ready w base k s → Arrived set w base k t s k t s
-arrived h = record { slots = h.slots; fits = h.fits; came = record { within = h.within; is = refl }; as_many = refl; long = refl }
-
-module _ {set : Settings} {w : List ℕ} {base : ℕ} {k₀ t₀ : List ℕ} {s₀ : Spot} {k t : List ℕ} {s : Spot} (a : Arrived set w base k₀ t₀ s₀ k t s) where
-  pub ready : Ready w base k s
-  ready = record { within = a.came.within; slots = a.slots; fits = a.fits }
-
-  pub arrived_on : {k' u : List ℕ} {r : Spot} → Turned set w base k t s k' (turn.On r) u → length k' ≡ length k → length u ≡ length t → Arrived set w base k₀ t₀ s₀ k' u r
-  arrived_on d m l = record {
-    slots = d.slots;
-    fits = d.is.fits;
-    came = record { within = d.is.came.within; is = d.is.came.is ∙ a.came.is };
-    as_many = m ∙ a.as_many;
-    long = l ∙ a.long;
-  }
-
-  pub arrived_last : {k' u : List ℕ} {r : Spot} → Turned set w base k t s k' (turn.Stop r) u → Went set w base k₀ t₀ s₀ k' r u
-  arrived_last d = record { slots = d.slots; is = came_goes a.came d.is }

@@ -3,7 +3,8 @@
 use mathlib.Core.Path.{◌≡◌, refl, sym, ap, ◌∙◌}
 use mathlib.Core.Bool.{Bool, true, false, cond}
 use mathlib.Core.List.{List, [], ◌∷◌}
-use mathlib.Core.Option.{none, some}
+use Rattle.std.specs.Prelude.{None, Some, Result, Ok, Err, IsErrAnd}
+use mathlib.Core.Logic.{◌⊎◌, inl, inr}
 use Prim.Native.Nat.{ℕ, zero, suc, ◌+◌, ◌-◌, ◌*◌, ◌≤◌, ◌<◌}
 use native.Mathlib.Omega.{arith}
 use lib.Dec.{eqb}
@@ -19,16 +20,14 @@ use Rattle.events.specs.declared.Outcome.{Outcome}
 use Rattle.events.specs.declared.Outcome.TheVariants.{TooDeep, LongBoundary, SmallLiteral}
 use Rattle.fields.specs.Common.{Known, part, scanned, by_boundary, first_encoding, known_of, Says}
 use Rattle.fields.specs.Imap.{holds_colon}
-use Rattle.fields.specs.declared.common.Bdry.TheVariants.{Unsupplied, Of}
 use Rattle.fields.specs.declared.common.Scan.{Scan}
 use Rattle.reading.proofs.Pieces.{drop_take}
 use Rattle.reading.proofs.Places.{by_test}
+use Rattle.reading.specs.declared.Span.{Span}
 use Rattle.reading.specs.Bytes.{same}
 use Rattle.reading.specs.Reading.{crlf, a_line}
 use Rattle.reads.proofs.Notes.{notes_on}
 use Rattle.reads.specs.Clauses.{Ends, Stops, Begins, Notes, Written, Full}
-use Rattle.reads.specs.declared.Noted.{Noted}
-use Rattle.reads.specs.declared.Noted.TheVariants as noted
 use Rattle.reads.specs.declared.Stop.{Stop}
 use Rattle.rules.specs.Machine.{Reaction}
 use Rattle.rules.specs.Mail.{begun, boundary_free, plain_mail, literal_body, rest, on_head}
@@ -43,15 +42,12 @@ use Rattle.windows.proofs.Courses.{pieces_got}
 use Rattle.windows.specs.Stands.{fresh, enter, enters, opens, copied, clipped, takes, does}
 use Rattle.windows.specs.Windows.{lands}
 use Rattle.phases.proofs.Reactions.{offered_mail, offered_not}
-use Rattle.phases.proofs.Turning.{to_end, piece_of, waits_whole, halts, leads, leads_written, leads_full, came_leaves, came_turn}
-use Rattle.phases.specs.Phasing.{slot, outside, Slots, Kept, boundary_of, known_as, unheard, state_of, Fits, Piece, Came, TurnIs, HeadIs, over_of, onward_of}
-use Rattle.phases.specs.Phasing.{Passes, Halts, halted_of}
-use Rattle.phases.specs.Phasing.{Learns, BegunIs, DeeperIs, behind_of}
+use Rattle.phases.proofs.Turning.{to_end, piece_of, waits_whole, halts, leads, leads_written, leads_full, came_goes, came_leaves, came_turn, stopped}
+use Rattle.phases.specs.Phasing.{slot, outside, Slots, Kept, boundary_of, known_as, unheard, state_of, Fits, Piece, Came, TurnIs, HeadIs, over_of, onward_of, Passes, Halts, Learns, BegunIs, DeeperIs, behind_of}
 use Rattle.phases.specs.declared.Heard.{Heard}
 use Rattle.phases.specs.declared.Phase.{Phase}
 use Rattle.phases.specs.declared.Phase.TheVariants as is
-use Rattle.phases.specs.declared.Turn.{Turn}
-use Rattle.phases.specs.declared.Turn.TheVariants as turn
+use Rattle.phases.specs.declared.Spot.{Spot}
 use Rattle.phases.specs.declared.header.Begun.{Begun}
 
 -- ---- slots
@@ -101,25 +97,24 @@ module _ {w : List ℕ} {p e : ℕ} {x : Heard} {i : ℕ} {k : List ℕ} (slots 
   heard_had h q = record { slots = slots; outer = refl; is = rw (h, slot_short k i slots (omega arith), q) }
 
   module _ {s : Scan} (h : x.supplied ≡ false)
-      (y : Says w (scanned (known_of w (record { encoding = x.encoding; seen = x.seen; boundary = Unsupplied })) (part w p e)) s) where
+      (y : Says w (scanned (known_of w (record { encoding = x.encoding; seen = x.seen; boundary = None })) (part w p e)) s) where
     -- still none
-    pub heard_none : s.boundary ≡ Unsupplied → Learns w p e x i k (record { encoding = s.encoding; seen = s.seen; supplied = false }) k
+    pub heard_none : s.boundary ≡ None → Learns w p e x i k (record { encoding = s.encoding; seen = s.seen; supplied = false }) k
     unfolding clipped copied
     heard_none b =
-        let a : known_of w s ≡ record { encoding = s.encoding; type_seen = s.seen; boundary = none } = rw b in
+        let a : known_of w s ≡ record { encoding = s.encoding; type_seen = s.seen; boundary = None } = rw b in
         record { slots = slots; outer = refl; is = rw h (sym (ap clipped (sym y.is ∙ a))) }
 
     -- the line supplies it, and it is kept
-    pub heard_supplied : {o n : ℕ} {k' : List ℕ} → s.boundary ≡ Of o n → Kept k i (part w o (o + n)) k'
+    pub heard_supplied : {b : Span} {k' : List ℕ} → s.boundary ≡ Some b → Kept k i (take b.len (drop b.at w)) k'
         → Learns w p e x i k (record { encoding = s.encoding; seen = s.seen; supplied = true }) k'
     unfolding clipped copied
-    heard_supplied {o} {n} {k'} b c =
-        let a : known_of w s ≡ record { encoding = s.encoding; type_seen = s.seen; boundary = some (take n (drop o w)) } = rw b in
-        let z : o + n - o ≡ n = omega arith in
+    heard_supplied {b} {k'} q c =
+        let a : known_of w s ≡ record { encoding = s.encoding; type_seen = s.seen; boundary = Some (take b.len (drop b.at w)) } = rw q in
         record {
           slots = slots_kept slots c;
           outer = outside_same k k' i i c.front (omega arith) (λ j g. slots.short j (omega arith));
-          is = rw (h, rw z at c.is) (sym (ap clipped (sym y.is ∙ a)));
+          is = rw (h, c.is) (sym (ap clipped (sym y.is ∙ a)));
         }
 
 -- ---- a deeper multipart
@@ -156,7 +151,7 @@ still : {t : List ℕ} {log : Log} → Written t log [] log t
 unfolding pour
 still = record { is = refl }
 
-module _ (k : List ℕ) (e : Encoding) (to : ℕ) {t : List ℕ} {log : Log} {r : Noted} {u : List ℕ} where
+module _ (k : List ℕ) (e : Encoding) (to : ℕ) {t : List ℕ} {log : Log} {r : Result Log Stop} {u : List ℕ} where
   -- bytes of a literal, or none
   pub literal_some : (n : ℕ) → 0 < n → Notes t log (ev body_start to 0 Unsaid ∷ []) r u
       → BegunIs (literal_body e to n) to k t log (record { phase = is.Literal e to (n - 1); noted = r }) u
@@ -174,15 +169,11 @@ module _ (k : List ℕ) (e : Encoding) (to : ℕ) {t : List ℕ} {log : Log} {r 
       rw z (record { notes = s; enters = record { is = refl; fits = tt } })
 
   -- a mail's lines
-  pub plain_smtp : {m : Mail} → m ≡ Smtp → Notes t log (ev body_start to 0 Unsaid ∷ []) r u
-      → BegunIs (plain_mail m e to) to k t log (record { phase = is.Text Smtp e; noted = r }) u
+  pub plain_lines : {m : Mail} → (m ≡ Smtp) ⊎ (m ≡ Pop3) → Notes t log (ev body_start to 0 Unsaid ∷ []) r u
+      → BegunIs (plain_mail m e to) to k t log (record { phase = is.Text m e; noted = r }) u
   unfolding plain_mail enter enters state_of Fits
-  plain_smtp h s = rw h (record { notes = s; enters = record { is = refl; fits = tt } })
-
-  pub plain_pop3 : {m : Mail} → m ≡ Pop3 → Notes t log (ev body_start to 0 Unsaid ∷ []) r u
-      → BegunIs (plain_mail m e to) to k t log (record { phase = is.Text Pop3 e; noted = r }) u
-  unfolding plain_mail enter enters state_of Fits
-  plain_pop3 h s = rw h (record { notes = s; enters = record { is = refl; fits = tt } })
+  plain_lines (inl h) s = rw h (record { notes = s; enters = record { is = refl; fits = tt } })
+  plain_lines (inr h) s = rw h (record { notes = s; enters = record { is = refl; fits = tt } })
 
   -- a part
   pub begun_part : (m : Mail) (x : Heard) (i : ℕ) → Begins m to → i ≤ 8 → x.supplied ≡ false → (i ≡ 0 → ⊥) → Notes t log (ev body_start to 0 Unsaid ∷ []) r u
@@ -195,7 +186,7 @@ module _ (k : List ℕ) (e : Encoding) (to : ℕ) {t : List ℕ} {log : Log} {r 
 
 module _ (k : List ℕ) (e : Encoding) (to : ℕ) {t : List ℕ} {log : Log} {m : Mail} {size start : ℕ} (h : m ≡ Imap size start) where
   -- the literal is smaller than the header
-  pub plain_small : size < to - start → BegunIs (plain_mail m e to) to k t log (record { phase = is.Over SmallLiteral to; noted = noted.Written log }) t
+  pub plain_small : size < to - start → BegunIs (plain_mail m e to) to k t log (record { phase = is.Over SmallLiteral to; noted = Ok log }) t
   unfolding plain_mail enter state_of Fits
   plain_small g = rw (h, lt-ltb size (to - start) g) (record { notes = still; enters = record { is = refl; fits = tt } })
 
@@ -207,7 +198,7 @@ module _ (k : List ℕ) (e : Encoding) (to : ℕ) {t : List ℕ} {log : Log} {m 
 module _ (m : Mail) (x : Heard) (i to : ℕ) (k : List ℕ) {t : List ℕ} {log : Log} where
   -- a multipart
   pub begun_deeper : {ph : Phase} → x.supplied ≡ true → DeeperIs m k i to ph
-      → BegunIs (behind_of m x i k to) to k t log (record { phase = ph; noted = noted.Written log }) t
+      → BegunIs (behind_of m x i k to) to k t log (record { phase = ph; noted = Ok log }) t
   begun_deeper h d = rw h (record { notes = rw (d.still x.encoding) still; enters = d.enters x.encoding })
 
   -- a mail with no boundary
@@ -240,33 +231,27 @@ pub record HeadAt (set : Settings) (w : List ℕ) (base a : ℕ) (k₀ t₀ : Li
   pub as_many : length k ≡ length k₀
   pub long : length t ≡ length t₀
 
-pub head_start : {set : Settings} {w : List ℕ} {base a : ℕ} {t : List ℕ} {log : Log} {m : Mail} {x : Heard} {i : ℕ} {k : List ℕ}
-    → a ≤ length w → Slots k → i ≤ 8 → Begins m (base + a)
-    → HeadAt set w base a k t log (is.Head m x i) m x i k a t log
-head_start h s v b = record { from = omega arith; slots = s; deep = v; begins = b; came = record { within = h; is = refl }; as_many = refl; long = refl }
-
 module _ {set : Settings} {w : List ℕ} {base a : ℕ} {k₀ t₀ : List ℕ} {log₀ : Log} {ph : Phase} {m : Mail} {x : Heard} {i : ℕ} {k : List ℕ} {p : ℕ} {t : List ℕ} {log : Log}
     (at : HeadAt set w base a k₀ t₀ log₀ ph m x i k p t log) where
   -- no line is finished, or it is refused
-  pub head_halts : {o : Outcome} {r : Turn} → Halts set w p o → r ≡ halted_of o (is.Head m x i) (base + p) p log → HeadIs set w base a k₀ t₀ log₀ ph r k t
+  pub head_halts : {r : Spot} → Halts set w base p (is.Head m x i) log r → HeadIs set w base a k₀ t₀ log₀ ph (Err r) k t
   unfolding state_of Fits wants
-  head_halts {o} d q =
-      let here = halts base k t log (is.Head m x i) (phase.head m (known_as k i x) (outside k i)) refl refl d at.came.within (at.deep, at.begins) in
-      rw q (record { slots = at.slots; is = came_turn k t (halted_of o (is.Head m x i) (base + p) p log) at.from at.came here })
+  head_halts d =
+      record { slots = at.slots; is = came_goes at.came (halts k t (phase.head m (known_as k i x) (outside k i)) refl refl d at.came.within (at.deep, at.begins)) }
 
   module _ {e : ℕ} (d : Passes set w p e) {u : List ℕ} where
     -- its event finds no slot
-    pub head_full : {s : Stop} {r : Turn} → Full t log (ev header_line (base + p) (e - p) Unsaid ∷ []) s u → r ≡ over_of s e → HeadIs set w base a k₀ t₀ log₀ ph r k u
+    pub head_full : {s : Stop} → Full t log (ev header_line (base + p) (e - p) Unsaid ∷ []) s u → HeadIs set w base a k₀ t₀ log₀ ph (Ok (over_of s e)) k u
     unfolding state_of
-    head_full {s} n q =
+    head_full {s} n =
         let b = same crlf (part w p e) in
         let l = part w p e in
-        rw q (record {
+        record {
           slots = at.slots;
           is =
               came_leaves at.from at.came
               (leads_full (head_piece base m (known_as k i x) (outside k i) b d refl) (turned m (known_as k i x) (outside k i) (base + e) l b).events refl n);
-        })
+        }
 
     module _ {next : Log} (n : Written t log (ev header_line (base + p) (e - p) Unsaid ∷ []) next u) where
       -- a line is heard
@@ -292,23 +277,25 @@ module _ {set : Settings} {w : List ℕ} {base a : ℕ} {k₀ t₀ : List ℕ} {
           }
 
       -- the blank line
-      pub head_begun : {b : Begun} {v : List ℕ} {r : Turn} → same crlf (part w p e) ≡ true
-          → BegunIs (behind_of m x i k (base + e)) (base + e) k u next b v → r ≡ onward_of b.noted b.phase e
-          → HeadIs set w base a k₀ t₀ log₀ ph r k v
+      pub head_begun : {b : Begun} {v : List ℕ} → same crlf (part w p e) ≡ true
+          → BegunIs (behind_of m x i k (base + e)) (base + e) k u next b v
+          → HeadIs set w base a k₀ t₀ log₀ ph (Ok (onward_of b.noted b.phase e)) k v
       unfolding state_of
-      head_begun {b} {v} h y q =
+      head_begun {b} {v} h y =
           let re = behind_of m x i k (base + e) in
-          rw q (record {
+          record {
             slots = at.slots;
             is =
-                came_turn k v (onward_of b.noted b.phase e) at.from at.came
+                came_leaves at.from at.came
                 (leads (head_piece base m (known_as k i x) (outside k i) true d h) k t log b.noted v b.phase (notes_on re.events b.noted v n y.notes) y.enters);
-          })
+          }
+
+-- the exit of a `?`
+pub head_stopped : {set : Settings} {w : List ℕ} {base a : ℕ} {k t : List ℕ} {log : Log} {ph : Phase} {s : Spot} {k' u : List ℕ} (r : Result Spot Spot) → IsErrAnd r (λ y. y ≡ s)
+    → HeadIs set w base a k t log ph (Err s) k' u → HeadIs set w base a k t log ph r k' u
+head_stopped r q d = record { slots = d.slots; is = stopped r q d.is }
 
 -- ---- the line behind an append, only peeked at
-pub begins_here : (size at : ℕ) → Begins (Imap size at) at
-begins_here size at = record { is = λ n start q. let z : at ≡ start = cc in omega arith }
-
 -- it is read as another phase reads it, which refuses it where this one does
 as_read : {set : Settings} {w : List ℕ} {base p e : ℕ} (t : List ℕ) (log : Log) (size : ℕ) (so : phase.Phase) → Ends a_line w p e → wants so ≡ a_line
     → reacts (phase.offered size) (base + p) (part w p e) ≡ reacts so (base + p) (part w p e)
@@ -324,11 +311,11 @@ as_read {set} {w} {base} {p} {e} t log size so d a q = record {
 
 module _ {set : Settings} {w : List ℕ} {base p : ℕ} {k t : List ℕ} {log : Log} {size : ℕ} where
   pub offered_short : {o : Outcome} → Stops a_line w p o → p ≤ length w → Slots k
-      → HeadIs set w base p k t log (is.Offered size) (turn.Stop (record { phase = is.Offered size; taken = p; log = log })) k t
+      → HeadIs set w base p k t log (is.Offered size) (Err (record { phase = is.Offered size; taken = p; log = log })) k t
   unfolding state_of Fits wants
   offered_short d h s = record { slots = s; is = waits_whole (is.Offered size) (phase.offered size) refl d h tt }
 
-  module _ {e : ℕ} (d : Ends a_line w p e) {r : Turn} {u : List ℕ} where
+  module _ {e : ℕ} (d : Ends a_line w p e) {r : Result Spot Spot} {u : List ℕ} where
     -- it holds a colon: a mail
     pub offered_head : {k' : List ℕ} → holds_colon (part w p e) ≡ true → HeadIs set w base p k t log (is.Head (Imap size (base + p)) unheard 0) r k' u
         → HeadIs set w base p k t log (is.Offered size) r k' u

@@ -2,13 +2,14 @@
 -- Assumes nothing.
 use mathlib.Core.Path.{◌≡◌, refl, sym, ap, subst, ◌∙◌}
 use mathlib.Core.Bool.{Bool, true, false, cond}
-use mathlib.Core.List.{List, [], ◌∷◌, ◌++◌}
+use mathlib.Core.List.{List, [], ◌∷◌}
+use mathlib.Core.Logic.{◌⊎◌, inl, inr}
 use Prim.Native.Nat.{ℕ, zero, suc, ◌+◌, ◌-◌, ◌*◌, ◌≤◌, ◌<◌, min}
 use native.Mathlib.Numerals.{add-one}
 use native.Mathlib.Omega.{arith}
 use lib.Dec.{eqb, leb, ltb}
-use lib.ListN.{length, take, drop, get_or, set, length-set, length-drop}
-use lib.Seq.{take-suc, take-suc-set, take-set-le, drop-set-add, drop-set-lt, get_or-set_same, get_or-set_other, take_all, drop-drop, get_or-drop}
+use lib.ListN.{length, take, drop, get_or, set, length-set, length-take, length-drop}
+use lib.Seq.{take-set-le, drop-set-lt, get_or-set_same, get_or-set_other, take_all, drop-drop, get_or-drop}
 use borrow.Author.Tests.{eqb-true, eqb-false, ne_eqb, leb-true, leb-false, ltb-true, ltb-false, lt-ltb, le-ltb}
 use Rattle.events.specs.Events.{part_body}
 use Rattle.events.specs.Table.{pour}
@@ -22,10 +23,15 @@ use Rattle.reading.proofs.Words.{rest_is}
 use Rattle.reading.specs.Blocks.{Last}
 use Rattle.reading.specs.Bytes.{holds, starts_with, same, ends_with, first_place}
 use Rattle.reading.specs.Reading.{crlf, dash, delimits, a_line, bytes, delimiter, past, reach, Got, got, short, parted, fetch}
-use Rattle.reading.specs.declared.Place.{Place}
-use Rattle.reading.specs.declared.Place.TheVariants.{At, Nowhere}
+use borrow.Rule.Slice.PartMut.{put_mid}
+use Rattle.std.proofs.lemmas.Option.{none-some, cond_some}
+use Rattle.std.proofs.lemmas.Slice.{between-put_mid, take-put_mid_below}
+use Rattle.std.proofs.lemmas.List.{places}
+use Rattle.std.specs.Prelude.{Option, Some, None, Ok}
 use Rattle.reads.proofs.Laws.{ends_at, stops_at}
-use Rattle.reads.specs.Clauses.{Ends, Stops, Pair, NoPair, Begins}
+use Rattle.reads.specs.Clauses.{Ends, Stops, Pair, NoPair, TwoIs, Begins}
+use Rattle.reads.specs.declared.Two.{Two}
+use Rattle.reads.specs.declared.Two.TheVariants.{Crlf, Hyphens, Other}
 use Rattle.rules.specs.Machine.{Reaction, stay, before}
 use Rattle.rules.specs.Mail.{hyphens, rest, outermost, by_rest, skip, popped, last_line, whole, content_length, on_preamble, on_opened, on_content, on_between, on_skipping, on_resting}
 use Rattle.rules.specs.Phases as phase
@@ -41,77 +47,41 @@ use Rattle.windows.specs.Pieces.{Mark, word, or_else, standing, piece_of, is_at,
 use Rattle.windows.specs.Stands.{Stand, in_preamble, in_content, copied, clipped, enters, enter, goes_on, takes, does, pieces}
 use Rattle.windows.specs.Windows.{over, keeps, landed, lands}
 use Rattle.phases.proofs.Turning.{to_end, leads_still}
-use Rattle.phases.proofs.Heading.{slot_length, begins_later}
-use Rattle.phases.specs.Phasing.{slot, outside, Slots, Kept, unheard, state_of, Fits, Enters, Piece, Leaves, Goes, ByLines, Found, Waits, SoughtIs}
+use Rattle.phases.proofs.Heading.{begins_later}
+use Rattle.phases.specs.Phasing.{slot, outside, Kept, unheard, state_of, Fits, Enters, Piece, Leaves, Goes, ByLines, Found, Waits, short_of}
 use Rattle.phases.specs.declared.Heard.{Heard}
 use Rattle.phases.specs.declared.Phase.{Phase}
 use Rattle.phases.specs.declared.Phase.TheVariants as is
-use Rattle.phases.specs.declared.parts.Sought.{Sought}
-use Rattle.phases.specs.declared.parts.Sought.TheVariants as sought
 
--- ---- a boundary is copied byte by byte: j of its n bytes so far
-pub record Copying (k : List ℕ) (i : ℕ) (b : List ℕ) (n j : ℕ) (k' : List ℕ) : Type 0 where
-  pub within : j ≤ n
-  pub long : length k' ≡ length k
-  pub front : take (i * 72) k' ≡ take (i * 72) k
-  pub so : take j (drop (i * 72 + 1) k') ≡ take j b
-  pub lengths : (x : ℕ) → get_or k' (x * 72) 0 ≡ get_or k (x * 72) 0
-
-pub none_copied : {k : List ℕ} {i : ℕ} {b : List ℕ} {n : ℕ} → Copying k i b n 0 k
-none_copied = record { within = omega arith; long = refl; front = refl; so = refl; lengths = λ x. refl }
-
-module _ {k : List ℕ} {i : ℕ} {b : List ℕ} {n : ℕ} {j : ℕ} {k' : List ℕ} (room : i * 72 + 72 ≤ length k) (small : n ≤ 71) (fits : n ≤ length b)
-    (c : Copying k i b n j k') where
-  pub copied_on : j < n → Copying k i b n (j + 1) (set k' (i * 72 + 1 + j) (get_or b j 0))
-  copied_on h = record {
-    within = omega arith;
-    long = length-set k' (i * 72 + 1 + j) (get_or b j 0) ∙ c.long;
-    front = take-set-le (i * 72) k' (i * 72 + 1 + j) (get_or b j 0) (omega arith) ∙ c.front;
-    so =
-        let l = drop (i * 72 + 1) k' in
-        let o : j < length l = omega (arith, length-drop (i * 72 + 1) k', c.long) in
-        let e : take (suc j) (set l j (get_or b j 0)) ≡ take (suc j) b =
-        take-suc-set l j (get_or b j 0) o ∙ ap (λ (x : List ℕ). x ++ (get_or b j 0 ∷ [])) c.so ∙ sym (take-suc b j 0 (omega arith)) in
-        rw (drop-set-add (i * 72 + 1) k' j (get_or b j 0), add-one) e;
-    lengths = λ x. get_or-set_other k' (i * 72 + 1 + j) (x * 72) (get_or b j 0) 0 (λ q. absurd (omega arith)) ∙ c.lengths x;
-  }
-
-  -- all of them, and the length before them
-  pub copied_all : n ≤ j → take n b ≡ take 71 b → Kept k i b (set k' (i * 72) n)
-  copied_all h e =
-      let q : j ≡ n = omega (arith, c.within) in
-      record {
-        long = length-set k' (i * 72) n ∙ c.long;
-        front = take-set-le (i * 72) k' (i * 72) n (omega arith) ∙ c.front;
-        is = rw (get_or-set_same k' (i * 72) n 0 (omega (arith, c.long)), drop-set-lt (i * 72 + 1) k' (i * 72) n (omega arith)) (rw q at c.so ∙ e);
-        own = rw (get_or-set_same k' (i * 72) n 0 (omega (arith, c.long))) small;
-        others = λ x g. get_or-set_other k' (i * 72) (x * 72) n 0 (λ q'. g (omega arith)) ∙ c.lengths x;
-      }
-
-pub short_take : (b : List ℕ) (n : ℕ) → n ≡ min 71 (length b) → take n b ≡ take 71 b
+-- ---- a boundary is copied
+short_take : (b : List ℕ) (n : ℕ) → n ≡ min (length b) 71 → take n b ≡ take 71 b
 short_take b n h =
     by_test (ltb (length b) 71)
     (λ t. take_all n b (omega (arith, ltb-true (length b) 71 t)) ∙ sym (take_all 71 b (omega (arith, ltb-true (length b) 71 t))))
     (λ t. let e : n ≡ 71 = omega (arith, ltb-false (length b) 71 t) in rw e)
 
+pub kept_all : {k b ys : List ℕ} (i n m o : ℕ) → i * 72 + 72 ≤ length k → n ≡ min (length b) 71 → m ≡ n → o ≡ i * 72 → ys ≡ take n b
+    → Kept k i b (set (put_mid (i * 72 + 1) m k ys) o n)
+kept_all {k} {b} {ys} i n m o room h e z q =
+    let s = put_mid (i * 72 + 1) n k ys in
+    let long : length ys ≡ n = ap length q ∙ length-take n b ∙ (let x : min n (length b) ≡ n = omega arith in x) in
+    let size : length s ≡ length k = grind (arith, places, long, room) in
+    let first : i * 72 < length s = omega arith in
+    let j : i * 72 + 1 + n - (i * 72 + 1) ≡ n = omega arith in
+    let is : take n (drop (i * 72 + 1) s) ≡ ys = rw j at (between-put_mid (i * 72 + 1) n k ys (i * 72 + 1 + n) (omega arith) (omega arith)) in
+    rw (e, z) (record {
+      long = length-set s (i * 72) n ∙ size;
+      front = take-set-le (i * 72) s (i * 72) n (omega arith) ∙ take-put_mid_below (i * 72 + 1) n k ys (i * 72) (omega arith) (omega arith);
+      is = rw (get_or-set_same s (i * 72) n 0 first, drop-set-lt (i * 72 + 1) s (i * 72) n (omega arith)) (is ∙ q ∙ short_take b n h);
+      own = rw (get_or-set_same s (i * 72) n 0 first) (omega arith);
+      others = λ x g. get_or-set_other s (i * 72) (x * 72) n 0 (λ q'. g (omega arith)) ∙ grind (arith, places, long, room, g);
+    })
+
 -- ---- copies that are kept
-pub slot_fits : {k : List ℕ} {i : ℕ} → Slots k → i ≤ 7 → get_or k (i * 72) 0 ≤ 71
-slot_fits {k} {i} s h = s.short i (omega arith)
-
--- it ends in the copies
-pub slot_inside : {k : List ℕ} {i : ℕ} → Slots k → i ≤ 7 → i * 72 + 1 + get_or k (i * 72) 0 ≤ length k
-slot_inside {k} {i} s h = omega (arith, s.long, s.short i (omega arith))
-
-pub slot_part : (k : List ℕ) (i n : ℕ) → n ≡ get_or k (i * 72) 0 → part k (i * 72 + 1) (i * 72 + 1 + n) ≡ slot k i
-slot_part k i n h = let z : i * 72 + 1 + n - (i * 72 + 1) ≡ n = omega arith in rw (z, h)
-
 pub outermost_slot : (k : List ℕ) (i : ℕ) → outermost (slot k i) (outside k i) ≡ slot k 0
 unfolding outermost outside
 outermost_slot k zero = refl
 outermost_slot k (suc i) = outermost_slot k i
-
-outermost_length : {k : List ℕ} (i : ℕ) → Slots k → length (outermost (slot k i) (outside k i)) ≡ get_or k (0 * 72) 0
-outermost_length {k} i s = ap length (outermost_slot k i) ∙ slot_length k 0 s (omega arith)
 
 -- ---- the last LF stands before r, or there is none and r is 0
 record LastLf (s : List ℕ) (r : ℕ) : Type 0 where
@@ -173,9 +143,9 @@ short_line : (mark : Mark) (here : Bool) (s : List ℕ) → piece_of mark here s
 unfolding piece_of or_else parted fetch
 short_line mark here s e = by_standing (standing mark here s) e
   where
-    by_standing : (x : Place) → parted s (or_else x (reach a_line s)) ≡ short → fetch a_line s ≡ short
-    by_standing (At n) g = absurd (got_none (sym g))
-    by_standing Nowhere g = g
+    by_standing : (x : Option ℕ) → parted s (or_else x (reach a_line s)) ≡ short → fetch a_line s ≡ short
+    by_standing (Some n) g = absurd (got_none (sym g))
+    by_standing None g = g
 
 module _ {settings : Settings} {mark : Mark} (laws : Marks mark) {f : Bool → Stand} {end : ℕ → Reaction State}
     (under : Under settings (piece_of mark) (is_mark mark) (λ here l. ends_with crlf l) f end) where
@@ -237,20 +207,20 @@ found_ends {w} {p} {b} {e} d = record {
 }
 
 module _ (w : List ℕ) (p : ℕ) (b : List ℕ) (h : p ≤ length w) where
-  pub delimiter_ends : {q : ℕ} → At q ≡ first_place (delimits b (part w p (length w))) (part w p (length w)) → Ends (delimiter b) w p (p + q + 2 + length b)
+  pub delimiter_ends : {q : ℕ} → Some q ≡ first_place (delimits b (part w p (length w))) (part w p (length w)) → Ends (delimiter b) w p (p + q + 2 + length b)
   unfolding reach past
   delimiter_ends {q} i =
-      let j : At q ≡ first_place (delimits b (drop p w)) (drop p w) = rw (rest_is w p) at i in
+      let j : Some q ≡ first_place (delimits b (drop p w)) (drop p w) = rw (rest_is w p) at i in
       let n : p + (q + length (dash b)) ≡ p + q + 2 + length b = omega arith in
       subst (Ends (delimiter b) w p) n (ends_at (delimiter b) w p (q + length (dash b)) h (rw (← j)))
 
-  pub search_found : {q : ℕ} → At q ≡ first_place (delimits b (part w p (length w))) (part w p (length w)) → Found w p b true (p + q + 2 + length b)
+  pub search_found : {q : ℕ} → Some q ≡ first_place (delimits b (part w p (length w))) (part w p (length w)) → Found w p b true (p + q + 2 + length b)
   search_found i = found_ends (delimiter_ends i)
 
-  module _ (i : Nowhere ≡ first_place (delimits b (part w p (length w))) (part w p (length w))) {n : ℕ} (d : Last (holds 10 (part w p (length w))) (part w p (length w)) n) where
+  module _ (i : None ≡ first_place (delimits b (part w p (length w))) (part w p (length w))) {n : ℕ} (d : Last (holds 10 (part w p (length w))) (part w p (length w)) n) where
     vain : up_to (word (dash b)) true (drop p w) ≡ short
     unfolding fetch reach past parted
-    vain = let j : Nowhere ≡ first_place (delimits b (drop p w)) (drop p w) = rw (rest_is w p) at i in delimited b (drop p w) ∙ rw (← j)
+    vain = let j : None ≡ first_place (delimits b (drop p w)) (drop p w) = rw (rest_is w p) at i in delimited b (drop p w) ∙ rw (← j)
 
     last : LastLf (drop p w) n
     last = last_lf (drop p w) n (rw (rest_is w p) at d)
@@ -282,9 +252,6 @@ pub record Passed (w : List ℕ) (p : ℕ) (b : List ℕ) (here : Bool) (q : ℕ
   pub is : (settings : Settings) (f : Bool → Stand) (end : ℕ → Reaction State) → ByLines settings b f end
       → (base : ℕ) → pieces settings (f here) (base + p) (drop p w) ≡ pieces settings (f there) (base + q) (drop q w)
 
-pub none_passed : {w : List ℕ} {p : ℕ} {b : List ℕ} {here : Bool} → p ≤ length w → Passed w p b here p here
-none_passed h = record { on = omega arith; within = h; is = λ settings f end u base. refl }
-
 not_mark : (mark : Mark) (l : List ℕ) → is_mark mark false l ≡ false
 unfolding is_mark is_at standing
 not_mark mark l = refl
@@ -315,22 +282,6 @@ module _ {w : List ℕ} {p : ℕ} {b : List ℕ} {here : Bool} {q : ℕ} {there 
         d.is settings f end u base
         ∙ pieces_short settings (f there) (base + q) (drop q w)
         (u.takes there (drop q w) ∙ ap (λ (x : Bool). piece_of (word (dash b)) x (drop q w)) t ∙ just_line (word (dash b)) (drop q w) ∙ rw c.short);
-  }
-
-  pub passed_sought : (r : Sought) → there ≡ true → SoughtIs w q b true r → SoughtIs w p b here r
-  passed_sought (sought.Found e) t c = record {
-    on = omega (arith, d.on, c.on);
-    within = c.within;
-    is = λ settings f end u base. record {
-      on = omega (arith, d.on, c.on);
-      within = c.within;
-      is = d.is settings f end u base ∙ ap (λ (x : Bool). pieces settings (f x) (base + q) (drop q w)) t ∙ (c.is settings f end u base).is;
-    };
-  }
-  passed_sought (sought.Waits e x) t c = record {
-    on = omega (arith, d.on, c.on);
-    within = c.within;
-    is = λ settings f end u base. d.is settings f end u base ∙ ap (λ (y : Bool). pieces settings (f y) (base + q) (drop q w)) t ∙ c.is settings f end u base;
   }
 
 -- ---- preambles and contents
@@ -390,14 +341,6 @@ module _ {w : List ℕ} {p : ℕ} (m : Mail) (b : List ℕ) (os : List (List ℕ
   unfolding reacts on_opened same starts_with
   opened_crlf d = rw d.is
 
-  pub opened_hyphens : Pair w p hyphens → reacts (phase.opened m b os) at (part w p (p + 2)) ≡ stop [] BadDelimiter at
-  unfolding reacts on_opened same starts_with
-  opened_hyphens d = rw d.is
-
-  pub opened_other : NoPair w p → reacts (phase.opened m b os) at (part w p (p + 2)) ≡ stop [] BadDelimiter at
-  unfolding reacts on_opened
-  opened_other d = rw d.no_crlf
-
   pub between_crlf : Pair w p crlf → reacts (phase.between m b os) at (part w p (p + 2)) ≡ then [] (phase.head m unknown (b ∷ os))
   unfolding reacts on_between same starts_with
   between_crlf d = rw d.is
@@ -409,6 +352,13 @@ module _ {w : List ℕ} {p : ℕ} (m : Mail) (b : List ℕ) (os : List (List ℕ
   pub between_other : NoPair w p → reacts (phase.between m b os) at (part w p (p + 2)) ≡ stop [] BadDelimiter at
   unfolding reacts on_between
   between_other d = rw (d.no_hyphens, d.no_crlf)
+
+pub opened_not : (w : List ℕ) (p : ℕ) (m : Mail) (b : List ℕ) (os : List (List ℕ)) (at : ℕ) (x : Two) → (x ≡ Hyphens) ⊎ (x ≡ Other) → TwoIs w p (Ok x)
+    → reacts (phase.opened m b os) at (part w p (p + 2)) ≡ stop [] BadDelimiter at
+unfolding reacts on_opened same starts_with
+opened_not w p m b os at Crlf h d = absurd (elim h [ inl e ↦ absurd cc | inr e ↦ absurd cc ])
+opened_not w p m b os at Hyphens h d = rw d.is
+opened_not w p m b os at Other h d = rw d.no_crlf
 
 -- a part's header
 pub enters_part : (k : List ℕ) (m : Mail) (i to : ℕ) {x : Heard} → x ≡ unheard → i ≤ 7 → Begins m to
@@ -425,61 +375,38 @@ pub enters_behind : (base p n : ℕ) (k : List ℕ) (st : ℕ → State) (r : Ph
     → Enters k (st (base + p + n)) (base + (p + n)) r
 enters_behind base p n k st r d = let z : base + p + n ≡ base + (p + n) = omega arith in subst (λ (to : ℕ). Enters k (st (base + p + n)) to r) z d
 
-pub rest_short : {x r n : ℕ} → r ≡ x → r < n → r ≡ cond (ltb x n) x 0
-rest_short {x} {r} {n} e h = rw (← e, lt-ltb r n h)
-
-pub rest_long : {x r n : ℕ} → r ≡ x → n ≤ r → 0 ≡ cond (ltb x n) x 0
-rest_long {x} {r} {n} e h = rw (← e, le-ltb r n h)
-
--- ---- behind a close: r is the literal's rest, if it is below n, else 0
+-- ---- behind a close: the literal's rest, if it is below n
 module _ (m : Mail) (b : List ℕ) (os : List (List ℕ)) (n : ℕ) (l : n ≡ length (outermost b os)) where
-  by_rest_lem : (x r : ℕ) → r ≡ cond (ltb x n) x 0 → 0 < r → by_rest m b os x ≡ reads (phase.resting m b os (r - 1))
+  rest_on : (x left : ℕ) → short_of x n ≡ Some left → by_rest m b os x ≡ reads (phase.resting m b os left)
   unfolding by_rest
-  by_rest_lem zero r e h = absurd (by_test (ltb 0 n) (λ t. let z : r ≡ 0 = e ∙ rw t in omega arith) (λ t. let z : r ≡ 0 = e ∙ rw t in omega arith))
-  by_rest_lem (suc x) r e h =
-      by_test (ltb (suc x) n)
-      (λ t.
-      let z : r ≡ suc x = e ∙ rw t in
-      let y : r - 1 ≡ x = omega arith in
-      rw (← l, t, y))
-      (λ t. let z : r ≡ 0 = e ∙ rw t in absurd (omega arith))
+  rest_on zero left e = absurd (none-some left e)
+  rest_on (suc x) left e = let y = cond_some (ltb (suc x) n) x left e in rw (← l, y.0, y.1)
 
-  by_lines_on : (x r : ℕ) → r ≡ cond (ltb x n) x 0 → r ≤ 0 → by_rest m b os x ≡ reads (phase.skipping m b os)
+  lines_on : (x : ℕ) → short_of x n ≡ None → by_rest m b os x ≡ reads (phase.skipping m b os)
   unfolding by_rest
-  by_lines_on zero r e h = refl
-  by_lines_on (suc x) r e h =
+  lines_on zero e = refl
+  lines_on (suc x) e =
       by_test (ltb (suc x) n)
-      (λ t. let z : r ≡ suc x = e ∙ rw t in absurd (omega arith))
+      (λ t. let y : Some x ≡ None = rw t at e in absurd (none-some x (sym y)))
       (λ t. rw (← l, t))
 
-  skip_rest : (to r : ℕ) → r ≡ cond (ltb (rest m to) n) (rest m to) 0 → 0 < r → skip m b os to ≡ reads (phase.resting m b os (r - 1))
-  unfolding skip
-  skip_rest to r e h = by_rest_lem (rest m to) r e h
-
-  skip_lines : (to r : ℕ) → r ≡ cond (ltb (rest m to) n) (rest m to) 0 → r ≤ 0 → skip m b os to ≡ reads (phase.skipping m b os)
-  unfolding skip
-  skip_lines to r e h = by_lines_on (rest m to) r e h
-
-module _ {k : List ℕ} (s : Slots k) (m : Mail) {i : ℕ} (to : ℕ) (h : i ≤ 7) (g : Begins m to) {n r : ℕ} (l : n ≡ get_or k (0 * 72) 0)
-    (e : r ≡ cond (ltb (rest m to) n) (rest m to) 0) where
-  pub enters_resting : 0 < r → Enters k (skip m (slot k i) (outside k i) to) to (is.Resting m i (r - 1))
-  unfolding state_of enter enters Fits
-  enters_resting o =
-      record { is = rw (skip_rest m (slot k i) (outside k i) n (l ∙ sym (outermost_length i s)) to r e o); fits = (h, g) }
+module _ (k : List ℕ) (m : Mail) {i : ℕ} (to : ℕ) (h : i ≤ 7) (g : Begins m to) {n : ℕ} (l : n ≡ length (slot k 0)) where
+  pub enters_resting : {left : ℕ} → short_of (rest m to) n ≡ Some left → Enters k (skip m (slot k i) (outside k i) to) to (is.Resting m i left)
+  unfolding skip state_of enter enters Fits
+  enters_resting {left} e = record { is = rw (rest_on m (slot k i) (outside k i) n (l ∙ sym (ap length (outermost_slot k i))) (rest m to) left e); fits = (h, g) }
 
   -- lines are skipped
-  pub skips_on : r ≤ 0 → enter (skip m (slot k i) (outside k i) to) to ≡ state_of k (is.Skipping m i)
-  unfolding state_of enter enters
-  skips_on o = rw (skip_lines m (slot k i) (outside k i) n (l ∙ sym (outermost_length i s)) to r e o)
+  pub skips_on : short_of (rest m to) n ≡ None → enter (skip m (slot k i) (outside k i) to) to ≡ state_of k (is.Skipping m i)
+  unfolding skip state_of enter enters
+  skips_on e = rw (lines_on m (slot k i) (outside k i) n (l ∙ sym (ap length (outermost_slot k i))) (rest m to) e)
 
-  pub enters_skipping : r ≤ 0 → Enters k (skip m (slot k i) (outside k i) to) to (is.Skipping m i)
+  pub enters_skipping : short_of (rest m to) n ≡ None → Enters k (skip m (slot k i) (outside k i) to) to (is.Skipping m i)
   unfolding Fits
-  enters_skipping o = record { is = sym (skips_on o); fits = (h, g) }
+  enters_skipping e = record { is = sym (skips_on e); fits = (h, g) }
 
 -- ---- a line behind a close, and the literal's rest
-pub outermost_is : (k : List ℕ) (i : ℕ) (m : Mail) (l : List ℕ) {n : ℕ} {x : Bool} → n ≡ get_or k (0 * 72) 0 → last_line m (part k 1 (1 + n)) l ≡ x
-    → last_line m (outermost (slot k i) (outside k i)) l ≡ x
-outermost_is k i m l {n} h q = let z : 1 + n - 1 ≡ n = omega arith in rw (outermost_slot k i) (rw (z, h) at q)
+pub outermost_is : (k : List ℕ) (i : ℕ) (m : Mail) (l : List ℕ) {x : Bool} → last_line m (slot k 0) l ≡ x → last_line m (outermost (slot k i) (outside k i)) l ≡ x
+outermost_is k i m l q = rw (outermost_slot k i) q
 
 module _ (base : ℕ) {w : List ℕ} {p e : ℕ} (m : Mail) (b : List ℕ) (os : List (List ℕ)) where
   module _ (d : Ends a_line w p e) where

@@ -3,6 +3,7 @@
 use mathlib.Core.Path.{◌≡◌, refl, sym, ap, ◌∙◌}
 use mathlib.Core.Bool.{true, false, cond}
 use mathlib.Core.List.{List, [], ◌∷◌}
+use mathlib.Core.Logic.{◌⊎◌, inl, inr}
 use Prim.Native.Nat.{ℕ, ◌+◌, ◌-◌, ◌≤◌}
 use native.Mathlib.Omega.{arith}
 use lib.Dec.{ltb}
@@ -14,26 +15,27 @@ use Rattle.events.specs.declared.Encoding.{Encoding}
 use Rattle.events.specs.declared.Encoding.TheVariants.{Unsaid}
 use Rattle.events.specs.Table.{pour}
 use Rattle.events.specs.declared.Log.{Log}
-use Rattle.events.specs.declared.Outcome.{Outcome}
 use Rattle.events.specs.declared.Outcome.TheVariants.{Done, NoHello, NoRecipient, OpenLiteral}
 use Rattle.fields.specs.Common.{part, unknown}
 use Rattle.fields.specs.Imap.{is_append, append_size, holds_colon}
 use Rattle.fields.specs.Pop3.{stls_answer, retr_answer}
 use Rattle.fields.specs.Smtp.{starts_with_helo, is_mail_from, second_line, is_data, mail_from, rcpt_to}
-use Rattle.fields.specs.declared.smtp.Address.TheVariants.{Given, Missing}
+use Rattle.std.specs.Prelude.{Some, None, Result, Ok, Err}
 use Rattle.fields.specs.declared.smtp.Second.{Second}
+use Rattle.reading.specs.declared.Span.{Span}
 use Rattle.reading.specs.Bytes.{starts_with, same}
 use Rattle.reading.specs.Reading.{a_line, bytes, crlf, clean, reach}
 use Rattle.reading.specs.Text.{text}
-use Rattle.reads.proofs.Laws.{clean_length, ends_at}
-use Rattle.reads.specs.Clauses.{Ends, Cleaned, Pair, NoPair, Stopped, Full, Notes}
-use Rattle.reads.specs.declared.Noted.{Noted}
-use Rattle.reads.specs.declared.Noted.TheVariants as noted
+use Rattle.reads.proofs.Laws.{clean_length, ends_at, begun_pop3}
+use Rattle.reads.specs.Clauses.{Ends, Cleaned, Pair, TwoIs, Stopped, Full, Written, Notes}
 use Rattle.reads.specs.declared.Stop.{Stop}
+use Rattle.reads.specs.declared.Two.{Two}
+use Rattle.reads.specs.declared.Two.TheVariants.{Crlf, Hyphens, Other}
+use Rattle.rules.specs.Machine.{Reaction}
 use Rattle.rules.specs.Imap.{on_command, on_offered, on_closing}
-use Rattle.rules.specs.Mail.{dot_line, hyphens, after_mail, on_text, on_literal}
+use Rattle.rules.specs.Mail.{dot_line, after_mail, on_text, on_literal}
 use Rattle.rules.specs.Phases as phase
-use Rattle.rules.specs.Phases.{State, reads, wants, then, stop}
+use Rattle.rules.specs.Phases.{State, reads, ends, wants, then, stop}
 use Rattle.rules.specs.Pop3.{on_status}
 use Rattle.rules.specs.Sessions.{reacts}
 use Rattle.rules.specs.Smtp.{on_hello, given, by_second, on_second, tried, on_user, on_password, on_sender, on_seeking, by_recipient, on_recipient, on_reply}
@@ -46,11 +48,12 @@ use Rattle.windows.proofs.Piecemeal.{Comes, comes}
 use Rattle.windows.proofs.Sized.{by_bytes}
 use Rattle.windows.specs.Stands.{Stand, fresh, enter, enters, in_literal}
 use Rattle.windows.specs.Windows.{over, keeps, landed, lands}
-use Rattle.phases.specs.Phasing.{CleanPasses, Halts, halted_of, state_of, Fits, Enters, Piece, Leaves, Goes, TurnIs, TurnOf, over_of, RecipientIs, Lists, LinedTo, LinedLeft}
+use Rattle.phases.specs.Phasing.{CleanPasses, Halts, state_of, Fits, Piece, Leaves, Goes, over_of, onward_of, unheard, RecipientIs, Lists, Leads, Stays, Gives}
+use Rattle.phases.specs.declared.Heard.{Heard}
 use Rattle.phases.specs.declared.Phase.{Phase}
+use Rattle.phases.specs.declared.Spot.{Spot}
 use Rattle.phases.specs.declared.Phase.TheVariants as is
-use Rattle.phases.specs.declared.Turn.{Turn}
-use Rattle.phases.proofs.Turning.{to_end, piece_of, halts, leads_written, leads_full, leads_still, leads, Looped, looped_on, looped_leaves, looped_turn}
+use Rattle.phases.proofs.Turning.{to_end, piece_of, halts, leads_written, leads_full, leads_still, leads, Looped, looped_on, looped_leaves, looped_goes, first_head}
 
 -- ---- the first line
 pub hello_yes : (at : ℕ) (l : List ℕ) → starts_with_helo l ≡ true → reacts phase.hello at l ≡ then [] phase.second
@@ -63,24 +66,24 @@ hello_not at l h = rw h
 
 -- ---- a line that is tried as sender
 module _ {set : Settings} {w : List ℕ} {base p : ℕ} {f : Stand} {e : ℕ} (l : List ℕ) (d : Piece set w base p f e (tried (base + p) l)) where
-  pub tried_none : mail_from l ≡ Missing → Piece set w base p f e (then [] phase.recipient)
+  pub tried_none : mail_from l ≡ None → Piece set w base p f e (then [] phase.recipient)
   unfolding given
   tried_none h = rw h at d
 
-  pub tried_given : {o n : ℕ} → mail_from l ≡ Given o n → Piece set w base p f e (then (ev event.sender (base + p + o) n Unsaid ∷ []) phase.recipient)
+  pub tried_given : {a : Span} → mail_from l ≡ Some a → Piece set w base p f e (then (ev event.sender (base + p + a.at) a.len Unsaid ∷ []) phase.recipient)
   unfolding given
   tried_given h = rw h at d
 
 -- ---- a line that is read as a recipient
 module _ {w : List ℕ} {base p end : ℕ} {t : List ℕ} {log : Log} where
-  pub recipient_none : {a : Stop} → rcpt_to (part w p end) ≡ Missing → Stopped NoRecipient (base + p) log a → RecipientIs w base p end t log (noted.Stopped a) t
+  pub recipient_none : {a : Stop} → rcpt_to (part w p end) ≡ None → Stopped NoRecipient (base + p) log a → RecipientIs w base p end t log (Err a) t
   unfolding by_recipient state_of enter Fits
   recipient_none h s = record {
     is = λ e. record { is = λ set k f d. rw (s.result, s.place, s.log) (leads_still (rw h at d) refl (record { is = refl; fits = tt })) };
   }
 
-  pub recipient_given : {o n : ℕ} {r : Noted} {u : List ℕ} → rcpt_to (part w p end) ≡ Given o n
-      → Notes t log (ev event.recipient (base + p + o) n Unsaid ∷ []) r u → RecipientIs w base p end t log r u
+  pub recipient_given : {a : Span} {r : Result Log Stop} {u : List ℕ} → rcpt_to (part w p end) ≡ Some a
+      → Notes t log (ev event.recipient (base + p + a.at) a.len Unsaid ∷ []) r u → RecipientIs w base p end t log r u
   unfolding by_recipient state_of enter enters Fits
   recipient_given {r = r} {u} h s = record {
     is = λ e. record { is = λ set k f d. leads (rw h at d) k t log r u is.Recipient s (record { is = refl; fits = tt }) };
@@ -91,14 +94,6 @@ module _ (base : ℕ) {w : List ℕ} {p end e : ℕ} (d : Cleaned w p end e) whe
   pub second_by : {x : Second} → x ≡ second_line (part w p end) → reacts phase.second (base + p) (part w p e) ≡ by_second x (base + p) (part w p end)
   unfolding reacts on_second
   second_by h = rw (← d.is, h)
-
-  pub user_by : reacts phase.user (base + p) (part w p e) ≡ then (ev event.user (base + p) (end - p) Unsaid ∷ []) phase.password
-  unfolding reacts on_user
-  user_by = rw (clean_length d)
-
-  pub password_by : reacts phase.password (base + p) (part w p e) ≡ then (ev event.password (base + p) (end - p) Unsaid ∷ []) phase.sender
-  unfolding reacts on_password
-  password_by = rw (clean_length d)
 
   pub sender_by : reacts phase.sender (base + p) (part w p e) ≡ tried (base + p) (part w p end)
   unfolding reacts on_sender
@@ -120,43 +115,6 @@ module _ (base : ℕ) {w : List ℕ} {p end e : ℕ} (d : Cleaned w p end e) whe
   unfolding reacts on_recipient
   recipient_by h = rw (← d.is, h)
 
-  -- ---- lines that are listed
-  pub reply_last : starts_with (text "221") (part w p end) ≡ true
-      → reacts phase.reply (base + p) (part w p e) ≡ stop (ev server_line (base + p) (end - p) Unsaid ∷ []) Done (base + e)
-  unfolding reacts on_reply
-  reply_last h = rw (clean_length d, ← d.is, h, to_end base d.ends)
-
-  pub reply_on : starts_with (text "221") (part w p end) ≡ false
-      → reacts phase.reply (base + p) (part w p e) ≡ then (ev server_line (base + p) (end - p) Unsaid ∷ []) phase.reply
-  unfolding reacts on_reply
-  reply_on h = rw (clean_length d, ← d.is, h)
-
-  pub status_tls : stls_answer (part w p end) ≡ true
-      → reacts phase.status (base + p) (part w p e) ≡ stop (ev server_line (base + p) (end - p) Unsaid ∷ []) Done (base + e)
-  unfolding reacts on_status
-  status_tls h = rw (clean_length d, ← d.is, h, to_end base d.ends)
-
-  module _ (h : stls_answer (part w p end) ≡ false) where
-    pub status_mail : retr_answer (part w p end) ≡ true
-        → reacts phase.status (base + p) (part w p e) ≡ then (ev server_line (base + p) (end - p) Unsaid ∷ []) (phase.head Pop3 unknown [])
-    unfolding reacts on_status
-    status_mail g = rw (clean_length d, ← d.is, h, g)
-
-    pub status_on : retr_answer (part w p end) ≡ false
-        → reacts phase.status (base + p) (part w p e) ≡ then (ev server_line (base + p) (end - p) Unsaid ∷ []) phase.status
-    unfolding reacts on_status
-    status_on g = rw (clean_length d, ← d.is, h, g)
-
-  pub command_append : {n : ℕ} → is_append (part w p end) ≡ true → n ≡ append_size (part w p end)
-      → reacts phase.command (base + p) (part w p e) ≡ then (ev client_line (base + p) (end - p) Unsaid ∷ []) (phase.offered n)
-  unfolding reacts on_command
-  command_append h g = rw (clean_length d, ← d.is, h, g)
-
-  pub command_on : is_append (part w p end) ≡ false
-      → reacts phase.command (base + p) (part w p e) ≡ then (ev client_line (base + p) (end - p) Unsaid ∷ []) phase.command
-  unfolding reacts on_command
-  command_on h = rw (clean_length d, ← d.is, h)
-
 -- ---- behind an append, and behind its literal
 pub offered_mail : (size at : ℕ) (l : List ℕ) → holds_colon l ≡ true → reacts (phase.offered size) at l ≡ reacts (phase.head (Imap size at) unknown []) at l
 unfolding reacts on_offered
@@ -171,13 +129,11 @@ module _ {w : List ℕ} {p : ℕ} (at : ℕ) where
   unfolding reacts on_closing same starts_with
   closing_crlf d = rw d.is
 
-  pub closing_hyphens : Pair w p hyphens → reacts phase.closing at (part w p (p + 2)) ≡ stop [] OpenLiteral at
-  unfolding reacts on_closing same starts_with
-  closing_hyphens d = rw d.is
-
-  pub closing_other : NoPair w p → reacts phase.closing at (part w p (p + 2)) ≡ stop [] OpenLiteral at
-  unfolding reacts on_closing
-  closing_other d = rw d.no_crlf
+pub closing_not : (w : List ℕ) (p at : ℕ) (x : Two) → (x ≡ Hyphens) ⊎ (x ≡ Other) → TwoIs w p (Ok x) → reacts phase.closing at (part w p (p + 2)) ≡ stop [] OpenLiteral at
+unfolding reacts on_closing same starts_with
+closing_not w p at Crlf h d = absurd (elim h [ inl e ↦ absurd cc | inr e ↦ absurd cc ])
+closing_not w p at Hyphens h d = rw d.is
+closing_not w p at Other h d = rw d.no_crlf
 
 -- ---- lines of a mail with no boundary
 module _ (base : ℕ) {w : List ℕ} {p e : ℕ} (m : Mail) (c : Encoding) (d : Ends a_line w p e) where
@@ -223,39 +179,102 @@ command_lists = record {
   is = λ at l. refl;
 }
 
--- where no line is finished, or it is refused, or its event finds no slot, such a phase is left
-module _ {set : Settings} {w : List ℕ} {base p : ℕ} {ph : Phase} {kind : ℕ} {t : List ℕ} {log : Log} where
-  pub lined_halts : {o : Outcome} {r : Turn} → Halts set w p o → p ≤ length w → r ≡ halted_of o ph (base + p) p log → LinedLeft set w base p ph kind t log r t
-  lined_halts d h q = record { is = λ so l k. rw (q, l.stands k) (halts base k t log ph so (l.stands k) l.wants d h (l.enters k (base + p)).fits) }
+-- what their lines lead to
+pub reply_last : {l : List ℕ} {to : ℕ} → starts_with (text "221") l ≡ true → Leads server_line phase.reply l to (is.Over Done to)
+unfolding reacts on_reply state_of enter Fits
+reply_last {to = to} h = record {
+  next = ends Done to;
+  enters = λ k. record { is = refl; fits = tt };
+  is = λ at whole c e. rw (c, h, e);
+}
 
-  pub lined_full : {end e : ℕ} {a : Stop} {u : List ℕ} {r : Turn} → CleanPasses set w p end e → Full t log (ev kind (base + p) (end - p) Unsaid ∷ []) a u → r ≡ over_of a e
-      → LinedLeft set w base p ph kind t log r u
-  lined_full {e = e} d n q = record {
-    is = λ so l k.
-        rw (q, l.stands k)
-        (leads_full (piece_of so (rw l.wants d.line.ends) (rw l.wants d.passes) refl) (l.behind (base + p) (part w p e)) (l.is (base + p) (part w p e))
-        (rw (clean_length d.line) at n));
-  }
+pub reply_on : {l : List ℕ} → starts_with (text "221") l ≡ false → Stays server_line phase.reply l
+unfolding reacts on_reply
+reply_on h = record { is = λ at whole c. rw (c, h) }
+
+pub status_tls : {l : List ℕ} {to : ℕ} → stls_answer l ≡ true → Leads server_line phase.status l to (is.Over Done to)
+unfolding reacts on_status state_of enter Fits
+status_tls {to = to} h = record {
+  next = ends Done to;
+  enters = λ k. record { is = refl; fits = tt };
+  is = λ at whole c e. rw (c, h, e);
+}
+
+pub status_mail : {l : List ℕ} {to : ℕ} {x : Heard} → stls_answer l ≡ false → retr_answer l ≡ true → x ≡ unheard → Leads server_line phase.status l to (is.Head Pop3 x 0)
+unfolding reacts on_status
+status_mail {to = to} h g u = record {
+  next = reads (phase.head Pop3 unknown []);
+  enters = λ k. first_head k to begun_pop3 u;
+  is = λ at whole c e. rw (c, h, g);
+}
+
+pub status_on : {l : List ℕ} → stls_answer l ≡ false → retr_answer l ≡ false → Stays server_line phase.status l
+unfolding reacts on_status
+status_on h g = record { is = λ at whole c. rw (c, h, g) }
+
+pub command_append : {l : List ℕ} {to n : ℕ} → is_append l ≡ true → n ≡ append_size l → Leads client_line phase.command l to (is.Offered n)
+unfolding reacts on_command state_of enter enters Fits
+command_append {n = n} h g = record {
+  next = reads (phase.offered n);
+  enters = λ k. record { is = refl; fits = tt };
+  is = λ at whole c e. rw (c, h, g);
+}
+
+pub command_on : {l : List ℕ} → is_append l ≡ false → Stays client_line phase.command l
+unfolding reacts on_command
+command_on h = record { is = λ at whole c. rw (c, h) }
+
+part_length : {w : List ℕ} {p end e : ℕ} → Cleaned w p end e → end - p ≡ length (part w p end)
+part_length d = clean_length d ∙ sym (ap length d.is)
 
 -- a loop over the lines of such a phase: what is left at p is what was left at a
 module _ {set : Settings} {w : List ℕ} {base a : ℕ} {t₀ : List ℕ} {log₀ : Log} {so : phase.Phase} {p : ℕ} {t : List ℕ} {log : Log} {ph : Phase} {kind : ℕ}
     (c : Looped set w base a t₀ log₀ (fresh (reads so)) p t log) (l : Lists ph kind so) where
-  -- the phase is left
-  pub lined_left : {r : Turn} {u : List ℕ} → LinedLeft set w base p ph kind t log r u → (k : List ℕ) → TurnOf set w base a k t₀ log₀ ph r u
-  lined_left {r} {u} d k =
-      let here : TurnIs set w base p k t log (fresh (reads so)) r u = rw (l.stands k) at (d.is so l k) in
-      rw (l.stands k) (looped_turn c k u r here)
+  -- no line is finished, or it is refused
+  pub lined_halts : {r : Spot} → Halts set w base p ph log r → (k : List ℕ) → Goes set w base a k t₀ log₀ (state_of k ph) r t
+  lined_halts d k = rw (l.stands k) (looped_goes c (halts k t so (l.stands k) l.wants d c.came.within (l.enters k (base + p)).fits))
 
-  module _ {end e : ℕ} {next : Log} {u : List ℕ} (d : LinedTo set w base p kind t log end e next u) where
-    -- behind a line that is listed: another phase
-    pub lined_leads : {st : State} {there : Phase} → reacts so (base + p) (part w p e) ≡ record { events = ev kind (base + p) (end - p) Unsaid ∷ []; next = st }
-        → (k : List ℕ) → Enters k st (base + e) there → Leaves set w base a k t₀ log₀ (state_of k ph) (record { phase = there; taken = e; log = next }) u
-    lined_leads q k g = rw (l.stands k) (looped_leaves c (leads_written (piece_of so (rw l.wants d.line.ends) (rw l.wants d.passes) q) d.written g))
+  module _ {end e : ℕ} (d : CleanPasses set w p end e) where
+    piece : {re : Reaction State} → reacts so (base + p) (part w p e) ≡ re → Piece set w base p (fresh (reads so)) e re
+    piece q = piece_of so (rw l.wants d.line.ends) (rw l.wants d.passes) q
 
-    -- or another line
-    pub lined_on : reacts so (base + p) (part w p e) ≡ then (ev kind (base + p) (end - p) Unsaid ∷ []) so → length u ≡ length t
-        → Looped set w base a t₀ log₀ (fresh (reads so)) e u next
-    lined_on q n = looped_on c (piece_of so (rw l.wants d.line.ends) (rw l.wants d.passes) q) d.written (sym (l.enters [] (base + e)).is ∙ l.stands []) n
+    -- its event finds no slot
+    pub lined_full : {s : Stop} {u : List ℕ} → Full t log (ev kind (base + p) (end - p) Unsaid ∷ []) s u → (k : List ℕ)
+        → Leaves set w base a k t₀ log₀ (state_of k ph) (over_of s e) u
+    lined_full n k =
+        rw (l.stands k) (looped_leaves c (leads_full (piece refl) (l.behind (base + p) (part w p e)) (l.is (base + p) (part w p e)) (rw (clean_length d.line) at n)))
+
+    module _ {next : Log} {u : List ℕ} (n : Written t log (ev kind (base + p) (end - p) Unsaid ∷ []) next u) where
+      -- it is listed, and another phase follows
+      pub lined_leads : {r : Phase} → Leads kind so (part w p end) (base + e) r → (k : List ℕ)
+          → Leaves set w base a k t₀ log₀ (state_of k ph) (record { phase = r; taken = e; log = next }) u
+      lined_leads s k =
+          rw (l.stands k) (looped_leaves c (leads_written (piece (s.is (base + p) (part w p e) (sym d.line.is) (to_end base d.line.ends))) (rw (part_length d.line) at n)
+          (s.enters k)))
+
+      -- or another line
+      pub lined_on : Stays kind so (part w p end) → length u ≡ length t → Looped set w base a t₀ log₀ (fresh (reads so)) e u next
+      lined_on s m =
+          looped_on c (piece (s.is (base + p) (part w p e) (sym d.line.is))) (rw (part_length d.line) at n) (sym (l.enters [] (base + e)).is ∙ l.stands []) m
+
+-- a phase that lists its one line
+module _ {set : Settings} {w : List ℕ} {base p : ℕ} {ph next : Phase} {kind : ℕ} {so to : phase.Phase} (l : Gives ph kind next so to) {log : Log} where
+  pub given_halts : {r : Spot} → Halts set w base p ph log r → p ≤ length w → (k t : List ℕ) → Goes set w base p k t log (state_of k ph) r t
+  given_halts d h k t = rw (l.stands k) (halts k t so (l.stands k) l.wants d h (l.fits (base + p)))
+
+  pub given_leads : {end e : ℕ} → CleanPasses set w p end e → {t u : List ℕ} (r : Result Log Stop) → Notes t log (ev kind (base + p) (end - p) Unsaid ∷ []) r u → (k : List ℕ)
+      → Leaves set w base p k t log (state_of k ph) (onward_of r next e) u
+  given_leads {e = e} d {t} {u} r n k =
+      rw (l.stands k) (leads (piece_of so (rw l.wants d.line.ends) (rw l.wants d.passes) (l.is (base + p) (part w p e))) k t log r u next (rw (clean_length d.line) at n)
+      (l.enters k (base + e)))
+
+pub user_gives : Gives is.User event.user is.Password phase.user phase.password
+unfolding reacts on_user wants state_of enter enters Fits
+user_gives = record { stands = λ k. refl; fits = λ at. tt; wants = refl; enters = λ k at. record { is = refl; fits = tt }; is = λ at l. refl }
+
+pub password_gives : Gives is.Password event.password is.Sender phase.password phase.sender
+unfolding reacts on_password wants state_of enter enters Fits
+password_gives = record { stands = λ k. refl; fits = λ at. tt; wants = refl; enters = λ k at. record { is = refl; fits = tt }; is = λ at l. refl }
 
 -- ---- a literal: left + 1 bytes, or as many of them as are shown
 pub literal_piece : {set : Settings} (base : ℕ) {w : List ℕ} {p : ℕ} (c : Encoding) (from left : ℕ) → p + left + 1 ≤ length w

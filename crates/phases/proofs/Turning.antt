@@ -6,6 +6,8 @@ use mathlib.Core.List.{List, [], ◌∷◌, ◌++◌, append-nil}
 use Prim.Native.Nat.{ℕ, suc, ◌+◌, ◌-◌, ◌≤◌}
 use native.Mathlib.Omega.{arith}
 use lib.ListN.{length, drop}
+use Rattle.std.specs.Prelude.{Result, Ok, Err, IsErrAnd}
+use Rattle.std.proofs.lemmas.Result.{err_from_is_err_and}
 use Rattle.events.proofs.Laws.{further, pour_append}
 use Rattle.events.specs.Table.{Poured, all, full, pour}
 use Rattle.events.specs.declared.Event.{Event}
@@ -13,11 +15,11 @@ use Rattle.events.specs.declared.Log.{Log}
 use Rattle.events.specs.declared.Outcome.{Outcome}
 use Rattle.events.specs.declared.Outcome.TheVariants.{TableFull, BareLf}
 use Rattle.fields.specs.Common.{part, unknown}
-use Rattle.reading.specs.Reading.{Need, a_line, parted, fetch}
-use Rattle.reads.specs.Clauses.{Ends, Stops, Notes, Written, Full, Begins}
-use Rattle.reads.specs.declared.Noted.{Noted}
-use Rattle.reads.specs.declared.Noted.TheVariants as noted
+use Rattle.reading.specs.Reading.{Need, a_line, two, parted, fetch}
+use Rattle.reads.specs.Clauses.{Ends, Stops, TwoIs, Notes, Written, Full, Begins}
 use Rattle.reads.specs.declared.Stop.{Stop}
+use Rattle.reads.specs.declared.Two.{Two}
+use Rattle.reads.specs.declared.Two.TheVariants.{Crlf, Hyphens, Other}
 use Rattle.rules.specs.Machine.{Reaction, Ran, stay, before}
 use Rattle.rules.specs.Mail.{after_mail, popped}
 use Rattle.rules.specs.Phases as phase
@@ -30,13 +32,11 @@ use Rattle.windows.proofs.Courses.{pieces_short, pieces_got}
 use Rattle.windows.proofs.Cut.{over_stays}
 use Rattle.windows.specs.Stands.{Stand, fresh, enter, enters, clipped, copied, goes_on, takes, does, pieces, stand_result}
 use Rattle.windows.specs.Windows.{over, keeps, refused, landed, lands}
-use Rattle.phases.specs.Phasing.{slot, outside, unheard, state_of, Fits, Enters, Piece, Came, Leaves, Goes, TurnIs, onward_of, Halts, waits, refuses as refused_at, halted_of}
+use Rattle.phases.specs.Phasing.{slot, outside, unheard, state_of, Fits, Enters, Piece, Came, Leaves, Goes, TurnIs, onward_of, Halts, waits, refuses as refused_at, Unpaired}
 use Rattle.phases.specs.declared.Heard.{Heard}
 use Rattle.phases.specs.declared.Phase.{Phase}
 use Rattle.phases.specs.declared.Phase.TheVariants as is
 use Rattle.phases.specs.declared.Spot.{Spot}
-use Rattle.phases.specs.declared.Turn.{Turn}
-use Rattle.phases.specs.declared.Turn.TheVariants as turn
 
 -- ---- a run behind events
 landed_same : (base : ℕ) (es : List Event) (o : Ran Stand) (z : Poured) → landed base (before es o) z ≡ landed base o z
@@ -111,10 +111,20 @@ module _ {set : Settings} {w : List ℕ} {base p : ℕ} where
       record { within = omega arith; fits = tt; is = rw z (sym (ap (lands base t log) o)) }
 
 -- a line that is not read, either way
-pub halts : {set : Settings} {w : List ℕ} (base : ℕ) {p : ℕ} (k t : List ℕ) (log : Log) {o : Outcome} (ph : Phase) (so : phase.Phase) → state_of k ph ≡ fresh (reads so)
-    → wants so ≡ a_line → Halts set w p o → p ≤ length w → Fits ph (base + p) → TurnIs set w base p k t log (fresh (reads so)) (halted_of o ph (base + p) p log) t
-halts {w = w} base {p} k t log {o} ph so e a (waits d) h f = let z : Stops (wants so) w p o = rw a d in rw d.is (waits_whole ph so e z h f)
-halts base k t log ph so e a (refused_at n d b q) h f = rw q (refuses_line {e = n} so (rw a d) (rw a b))
+pub halts : {set : Settings} {w : List ℕ} {base p : ℕ} {ph : Phase} {log : Log} {r : Spot} (k t : List ℕ) (so : phase.Phase) → state_of k ph ≡ fresh (reads so)
+    → wants so ≡ a_line → Halts set w base p ph log r → p ≤ length w → Fits ph (base + p) → Goes set w base p k t log (fresh (reads so)) r t
+halts {w = w} {p = p} {ph} k t so e a (waits o d q) h f = let z : Stops (wants so) w p o = rw a d in rw q (waits_whole ph so e z h f)
+halts k t so e a (refused_at n d b q) h f = rw q (refuses_line {e = n} so (rw a d) (rw a b))
+
+-- two bytes that are not there
+pub pair_waits : {set : Settings} {w : List ℕ} {base p : ℕ} (k t : List ℕ) {log : Log} (ph : Phase) (so : phase.Phase) {r : Spot} → state_of k ph ≡ fresh (reads so)
+    → wants so ≡ two → Unpaired w p ph log r → p ≤ length w → Fits ph (base + p) → Goes set w base p k t log (state_of k ph) r t
+pair_waits {w = w} {p = p} k t ph so e a d h f = let z : Stops (wants so) w p d.o = rw a d.stops in rw (d.is, e) (waits_whole ph so e z h f)
+
+-- the exit of a `?`
+pub stopped : {set : Settings} {w : List ℕ} {base p : ℕ} {k t : List ℕ} {log : Log} {f : Stand} {s : Spot} {u : List ℕ} (r : Result Spot Spot) → IsErrAnd r (λ y. y ≡ s)
+    → Goes set w base p k t log f s u → TurnIs set w base p k t log f r u
+stopped r q d = let left = err_from_is_err_and r q in rw (left.1, left.2) d
 
 -- ---- what follows a piece
 module _ {set : Settings} {w : List ℕ} {base p : ℕ} {f : Stand} {e : ℕ} {re : Reaction State} (d : Piece set w base p f e re) {k t : List ℕ} {log : Log} where
@@ -148,11 +158,24 @@ module _ {set : Settings} {w : List ℕ} {base p : ℕ} {f : Stand} {e : ℕ} {r
   unfolding pour
   leads_still q g = leads_written (record { is = rw q }) g
 
+-- two bytes that are there
+pub pair_ends : (w : List ℕ) (p : ℕ) (x : Two) → TwoIs w p (Ok x) → Ends two w p (p + 2)
+pair_ends w p Crlf d = d.ends
+pair_ends w p Hyphens d = d.ends
+pair_ends w p Other d = d.ends
+
+pub pair_leads : {set : Settings} {w : List ℕ} {base p : ℕ} (k t : List ℕ) {log : Log} (ph : Phase) {next : Phase} (so : phase.Phase) {st : State}
+    → state_of k ph ≡ fresh (reads so)
+    → wants so ≡ two → Ends two w p (p + 2) → reacts so (base + p) (part w p (p + 2)) ≡ record { events = []; next = st } → Enters k st (base + (p + 2)) next
+    → Leaves set w base p k t log (state_of k ph) (record { phase = next; taken = p + 2; log = log }) t
+unfolding is_bare
+pair_leads k t ph so e a d q g = rw e (leads_still (piece_of so (rw a d) (rw a) q) refl g)
+
 pub leads : {set : Settings} {w : List ℕ} {base p : ℕ} {f : Stand} {e : ℕ} {re : Reaction State} → Piece set w base p f e re
-    → (k t : List ℕ) (log : Log) (n : Noted) (u : List ℕ) (ph : Phase)
-    → Notes t log re.events n u → Enters k re.next (base + e) ph → TurnIs set w base p k t log f (onward_of n ph e) u
-leads d k t log (noted.Written next) u ph n g = leads_written d n g
-leads {re = re} d k t log (noted.Stopped a) u ph n g = leads_full d [] (sym (append-nil re.events)) n
+    → (k t : List ℕ) (log : Log) (n : Result Log Stop) (u : List ℕ) (ph : Phase)
+    → Notes t log re.events n u → Enters k re.next (base + e) ph → Leaves set w base p k t log f (onward_of n ph e) u
+leads d k t log (Ok next) u ph n g = leads_written d n g
+leads {re = re} d k t log (Err a) u ph n g = leads_full d [] (sym (append-nil re.events)) n
 
 -- ---- a loop over the pieces of a stand, which has come from a to p
 pub record Looped (set : Settings) (w : List ℕ) (base a : ℕ) (t₀ : List ℕ) (log₀ : Log) (f : Stand) (p : ℕ) (t : List ℕ) (log : Log) : Type 0 where
@@ -172,10 +195,10 @@ pub came_goes : {set : Settings} {w : List ℕ} {base a : ℕ} {t₀ : List ℕ}
     → Came set w base a t₀ log₀ f p t log g → Goes set w base p k t log g r u → Goes set w base a k t₀ log₀ f r u
 came_goes c l = record { within = l.within; fits = l.fits; is = l.is ∙ c.is }
 
-pub came_turn : {set : Settings} {w : List ℕ} {base a : ℕ} {t₀ : List ℕ} {log₀ : Log} {f g : Stand} {p : ℕ} {t : List ℕ} {log : Log} (k u : List ℕ) (r : Turn)
+pub came_turn : {set : Settings} {w : List ℕ} {base a : ℕ} {t₀ : List ℕ} {log₀ : Log} {f g : Stand} {p : ℕ} {t : List ℕ} {log : Log} (k u : List ℕ) (r : Result Spot Spot)
     → a ≤ p → Came set w base a t₀ log₀ f p t log g → TurnIs set w base p k t log g r u → TurnIs set w base a k t₀ log₀ f r u
-came_turn k u (turn.On r) h c l = came_leaves h c l
-came_turn k u (turn.Stop r) h c l = came_goes c l
+came_turn k u (Ok r) h c l = came_leaves h c l
+came_turn k u (Err r) h c l = came_goes c l
 
 module _ {set : Settings} {w : List ℕ} {base a : ℕ} {t₀ : List ℕ} {log₀ : Log} {f : Stand} {p : ℕ} {t : List ℕ} {log : Log} (c : Looped set w base a t₀ log₀ f p t log) where
   pub looped_on : {e : ℕ} {re : Reaction State} {next : Log} {u : List ℕ} → Piece set w base p f e re → Written t log re.events next u → enter re.next (base + e) ≡ f
@@ -214,9 +237,6 @@ module _ {set : Settings} {w : List ℕ} {base a : ℕ} {t₀ : List ℕ} {log�
 
   pub looped_goes : {k u : List ℕ} {r : Spot} → Goes set w base p k t log f r u → Goes set w base a k t₀ log₀ f r u
   looped_goes l = came_goes c.came l
-
-  pub looped_turn : (k u : List ℕ) (r : Turn) → TurnIs set w base p k t log f r u → TurnIs set w base a k t₀ log₀ f r u
-  looped_turn k u r l = came_turn k u r c.from c.came l
 
 -- ---- where a level is left
 pub popped_out : (k : List ℕ) (m : Mail) {i : ℕ} (to : ℕ) {r : Phase} → i ≡ 0 → Enters k (after_mail m to) to r → Enters k (popped m (outside k i) to) to r

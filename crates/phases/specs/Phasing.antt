@@ -1,7 +1,6 @@
 -- What the phases of the code stand for, and what their functions answer: what is left to do of a window stays the same.
 -- Assumes nothing.
-use Rattle.std.specs.Prelude.{◌≡◌, Bool, true, false, cond, ◌&&◌, List, [], ◌∷◌, ℕ, zero, suc, ◌+◌, ◌-◌, ◌*◌, ◌≤◌, ◌<◌, eqb, length, take, drop, get_or}
-use Rattle.std.proofs.Math.Option.{Option, none, some}
+use Rattle.std.specs.Prelude.{◌≡◌, Bool, true, false, cond, ◌&&◌, List, [], ◌∷◌, ℕ, zero, suc, ◌+◌, ◌*◌, ◌≤◌, ◌<◌, eqb, ltb, length, take, drop, get_or, Option, None, Some, Result, Ok, Err}
 use Rattle.events.specs.Events.{ev, result_number}
 use Rattle.events.specs.declared.Encoding.{Encoding}
 use Rattle.events.specs.declared.Encoding.TheVariants.{Unsaid}
@@ -12,19 +11,15 @@ use Rattle.events.specs.declared.Outcome.TheVariants.{BareLf}
 use Rattle.fields.specs.Common.{Known, part, scanned}
 use Rattle.fields.specs.Smtp.{rcpt_to}
 use Rattle.reading.specs.Bytes.{ends_with}
-use Rattle.reading.specs.Reading.{a_line, clean, crlf, dash}
-use Rattle.reads.specs.Clauses.{Ends, Stops, Cleaned, Written, Notes, Begins}
-use Rattle.reads.specs.declared.Clean.{Clean}
-use Rattle.reads.specs.declared.Clean.TheVariants as clean_line
-use Rattle.reads.specs.declared.Noted.{Noted}
-use Rattle.reads.specs.declared.Noted.TheVariants as noted
-use Rattle.reads.specs.declared.Read.{Read}
-use Rattle.reads.specs.declared.Read.TheVariants as read
+use Rattle.reading.specs.Reading.{a_line, two, clean, crlf, dash}
+use Rattle.reads.specs.Clauses.{Ends, Stops, Cleaned, TwoIs, Notes, Begins}
+use Rattle.reads.specs.declared.CleanLine.{CleanLine}
 use Rattle.reads.specs.declared.Stop.{Stop}
+use Rattle.reads.specs.declared.Two.{Two}
 use Rattle.rules.specs.Machine.{Reaction, stay, before}
 use Rattle.rules.specs.Mail.{begun}
 use Rattle.rules.specs.Phases as phase
-use Rattle.rules.specs.Phases.{State, reads, ends, wants}
+use Rattle.rules.specs.Phases.{State, reads, ends, wants, then}
 use Rattle.rules.specs.Sessions.{reacts}
 use Rattle.rules.specs.Smtp.{by_recipient}
 use Rattle.rules.specs.Strict.{is_bare}
@@ -37,13 +32,8 @@ use Rattle.phases.specs.declared.Heard.{Heard}
 use Rattle.phases.specs.declared.Phase.{Phase}
 use Rattle.phases.specs.declared.Phase.TheVariants as is
 use Rattle.phases.specs.declared.Spot.{Spot}
-use Rattle.phases.specs.declared.Turn.{Turn}
-use Rattle.phases.specs.declared.Turn.TheVariants as turn
 use Rattle.phases.specs.declared.header.Begun.{Begun}
-use Rattle.phases.specs.declared.lines.Lined.{Lined}
-use Rattle.phases.specs.declared.lines.Lined.TheVariants as lined
-use Rattle.phases.specs.declared.parts.Sought.{Sought}
-use Rattle.phases.specs.declared.parts.Sought.TheVariants as sought
+use Rattle.phases.specs.declared.parts.Pause.{Pause}
 
 -- ---- copies of boundaries: 72 bytes for each, its length first
 
@@ -70,7 +60,7 @@ pub record Kept (k : List ℕ) (i : ℕ) (b k' : List ℕ) : Type 0 where
 
 -- what a header has said: its boundary stands behind the open ones
 abbrev pub boundary_of : List ℕ → ℕ → Heard → Option (List ℕ)
-boundary_of k i x = cond x.supplied (some (slot k i)) none
+boundary_of k i x = cond x.supplied (Some (slot k i)) None
 
 abbrev pub known_as : List ℕ → ℕ → Heard → Known
 known_as k i x = record { encoding = x.encoding; type_seen = x.seen; boundary = boundary_of k i x }
@@ -162,28 +152,28 @@ pub record Goes (set : Settings) (w : List ℕ) (base p : ℕ) (k t : List ℕ) 
   pub fits : Fits r.phase (base + r.taken)
   pub is : spot_of base k u r ≡ lands base t log (pieces set f (base + p) (drop p w))
 
-abbrev pub TurnIs : Settings → List ℕ → ℕ → ℕ → List ℕ → List ℕ → Log → Stand → Turn → List ℕ → Type 0
-TurnIs set w base p k t log f (turn.On r) u = Leaves set w base p k t log f r u
-TurnIs set w base p k t log f (turn.Stop r) u = Goes set w base p k t log f r u
+abbrev pub TurnIs : Settings → List ℕ → ℕ → ℕ → List ℕ → List ℕ → Log → Stand → Result Spot Spot → List ℕ → Type 0
+TurnIs set w base p k t log f (Ok r) u = Leaves set w base p k t log f r u
+TurnIs set w base p k t log f (Err r) u = Goes set w base p k t log f r u
 
 -- the turn of a phase that copies no boundary: k stays as it is
-abbrev pub TurnOf : Settings → List ℕ → ℕ → ℕ → List ℕ → List ℕ → Log → Phase → Turn → List ℕ → Type 0
+abbrev pub TurnOf : Settings → List ℕ → ℕ → ℕ → List ℕ → List ℕ → Log → Phase → Result Spot Spot → List ℕ → Type 0
 TurnOf set w base p k t log ph r u = TurnIs set w base p k t log (state_of k ph) r u
 
--- whatever stands at p, takes a piece up to e and reacts so: its turn
-pub record Follows (w : List ℕ) (base p e : ℕ) (re : Reaction State) (t : List ℕ) (log : Log) (r : Turn) (u : List ℕ) : Type 0 where
-  pub is : (set : Settings) (k : List ℕ) (f : Stand) → Piece set w base p f e re → TurnIs set w base p k t log f r u
+-- whatever stands at p, takes a piece up to e and reacts so: where that leads
+pub record Follows (w : List ℕ) (base p e : ℕ) (re : Reaction State) (t : List ℕ) (log : Log) (r : Spot) (u : List ℕ) : Type 0 where
+  pub is : (set : Settings) (k : List ℕ) (f : Stand) → Piece set w base p f e re → Leaves set w base p k t log f r u
 
-abbrev pub over_of : Stop → ℕ → Turn
-over_of a e = turn.On (record { phase = is.Over a.result a.place; taken = e; log = a.log })
+abbrev pub over_of : Stop → ℕ → Spot
+over_of a e = record { phase = is.Over a.result a.place; taken = e; log = a.log }
 
-abbrev pub onward_of : Noted → Phase → ℕ → Turn
-onward_of (noted.Written next) ph e = turn.On (record { phase = ph; taken = e; log = next })
-onward_of (noted.Stopped a) ph e = over_of a e
+abbrev pub onward_of : Result Log Stop → Phase → ℕ → Spot
+onward_of (Ok next) ph e = record { phase = ph; taken = e; log = next }
+onward_of (Err a) ph e = over_of a e
 
 -- the session is over: done takes what was read, a refusal nothing
-abbrev pub ended_of : Outcome → ℕ → ℕ → Log → Turn
-ended_of o q p log = turn.Stop (record { phase = is.Over o q; taken = cond (eqb (result_number o) 0) p 0; log = log })
+abbrev pub ended_of : Outcome → ℕ → ℕ → Log → Spot
+ended_of o q p log = record { phase = is.Over o q; taken = cond (eqb (result_number o) 0) p 0; log = log }
 
 -- ---- lines, as the settings let them be read
 
@@ -196,31 +186,48 @@ pub record CleanPasses (set : Settings) (w : List ℕ) (p end e : ℕ) : Type 0 
   pub line : Cleaned w p end e
   pub passes : (is_bare a_line (part w p e) && set.strict) ≡ false
 
+-- the phase waits at p
+abbrev pub waits_of : Phase → ℕ → Log → Spot
+waits_of ph p log = record { phase = ph; taken = p; log = log }
+
+-- a bare line is refused at the session's place `at`, and the window takes nothing
+abbrev pub bare_of : ℕ → Log → Spot
+bare_of at log = record { phase = is.Over BareLf at; taken = 0; log = log }
+
 -- none is finished, or it refuses
-pub data Halts (set : Settings) (w : List ℕ) (p : ℕ) (o : Outcome) : Type 0 where
-  waits : Stops a_line w p o → Halts set w p o
-  refuses : (e : ℕ) → Ends a_line w p e → (is_bare a_line (part w p e) && set.strict) ≡ true → o ≡ BareLf → Halts set w p o
+pub data Halts (set : Settings) (w : List ℕ) (base p : ℕ) (ph : Phase) (log : Log) (r : Spot) : Type 0 where
+  waits : (o : Outcome) → Stops a_line w p o → r ≡ waits_of ph p log → Halts set w base p ph log r
+  refuses : (e : ℕ) → Ends a_line w p e → (is_bare a_line (part w p e) && set.strict) ≡ true → r ≡ bare_of (base + p) log → Halts set w base p ph log r
 
-abbrev pub LineIs : Settings → List ℕ → ℕ → Read → Type 0
-LineIs set w p (read.To e) = Passes set w p e
-LineIs set w p (read.Stop o) = Halts set w p o
+abbrev pub LineIs : Settings → List ℕ → ℕ → ℕ → Phase → Log → Result ℕ Spot → Type 0
+LineIs set w base p ph log (Ok e) = Passes set w p e
+LineIs set w base p ph log (Err r) = Halts set w base p ph log r
 
-abbrev pub CleanLineIs : Settings → List ℕ → ℕ → Clean → Type 0
-CleanLineIs set w p (clean_line.To end e) = CleanPasses set w p end e
-CleanLineIs set w p (clean_line.Stop o) = Halts set w p o
+abbrev pub CleanLineIs : Settings → List ℕ → ℕ → ℕ → Phase → Log → Result CleanLine Spot → Type 0
+CleanLineIs set w base p ph log (Ok l) = CleanPasses set w p l.clean l.end
+CleanLineIs set w base p ph log (Err r) = Halts set w base p ph log r
 
--- the phase waits at p; or it is refused at the session's place `at`, and the window takes nothing
-abbrev pub halted_of : Outcome → Phase → (at p : ℕ) → Log → Turn
-halted_of o ph at p log =
-    cond (eqb (result_number o) 1) (turn.Stop (record { phase = ph; taken = p; log = log })) (turn.Stop (record { phase = is.Over o at; taken = 0; log = log }))
+abbrev pub PassIs : Settings → List ℕ → ℕ → ℕ → ℕ → Log → Result Unit Spot → Type 0
+PassIs set w base p e log (Ok x) = (is_bare a_line (part w p e) && set.strict) ≡ false
+PassIs set w base p e log (Err r) = ((is_bare a_line (part w p e) && set.strict) ≡ true) × (r ≡ bare_of (base + p) log)
+
+-- two bytes, or the phase waits for them
+pub record Unpaired (w : List ℕ) (p : ℕ) (ph : Phase) (log : Log) (r : Spot) : Type 0 where
+  pub o : Outcome
+  pub stops : Stops two w p o
+  pub is : r ≡ waits_of ph p log
+
+abbrev pub PairIs : List ℕ → ℕ → Phase → Log → Result Two Spot → Type 0
+PairIs w p ph log (Ok x) = TwoIs w p (Ok x)
+PairIs w p ph log (Err r) = Unpaired w p ph log r
 
 -- a turn that may copy a boundary
-pub record HeadIs (set : Settings) (w : List ℕ) (base p : ℕ) (k t : List ℕ) (log : Log) (ph : Phase) (r : Turn) (k' u : List ℕ) : Type 0 where
+pub record HeadIs (set : Settings) (w : List ℕ) (base p : ℕ) (k t : List ℕ) (log : Log) (ph : Phase) (r : Result Spot Spot) (k' u : List ℕ) : Type 0 where
   pub slots : Slots k'
   pub is : TurnIs set w base p k' t log (state_of k ph) r u
 
 -- ---- a line that is read as a recipient: another follows, or the session is over
-pub record RecipientIs (w : List ℕ) (base p end : ℕ) (t : List ℕ) (log : Log) (r : Noted) (u : List ℕ) : Type 0 where
+pub record RecipientIs (w : List ℕ) (base p end : ℕ) (t : List ℕ) (log : Log) (r : Result Log Stop) (u : List ℕ) : Type 0 where
   pub is : (e : ℕ) → Follows w base p e (by_recipient (base + p) (rcpt_to (part w p end))) t log (onward_of r is.Recipient e) u
 
 -- ---- lines that are listed
@@ -233,19 +240,26 @@ pub record Lists (ph : Phase) (kind : ℕ) (so : phase.Phase) : Type 0 where
   pub behind : ℕ → List ℕ → List Event
   pub is : (at : ℕ) (l : List ℕ) → (reacts so at l).events ≡ ev kind at (length (clean l)) Unsaid ∷ behind at l
 
--- a line is read, its clean part up to `end`, it does not refuse, and its event is written
-pub record LinedTo (set : Settings) (w : List ℕ) (base p kind : ℕ) (t : List ℕ) (log : Log) (end e : ℕ) (next : Log) (u : List ℕ) : Type 0 where
-  pub line : Cleaned w p end e
-  pub passes : (is_bare a_line (part w p e) && set.strict) ≡ false
-  pub written : Written t log (ev kind (base + p) (end - p) Unsaid ∷ []) next u
+-- it has listed a line that is l when clean, and ends at `to`: another phase follows, or another line
+pub record Leads (kind : ℕ) (so : phase.Phase) (l : List ℕ) (to : ℕ) (r : Phase) : Type 0 where
+  pub next : State
+  pub enters : (k : List ℕ) → Enters k next to r
+  pub is : (at : ℕ) (whole : List ℕ) → clean whole ≡ l → at + length whole ≡ to → reacts so at whole ≡ record { events = ev kind at (length l) Unsaid ∷ []; next = next }
 
--- such a phase is left: no line is finished, or it is refused, or its event finds no slot
-pub record LinedLeft (set : Settings) (w : List ℕ) (base p : ℕ) (ph : Phase) (kind : ℕ) (t : List ℕ) (log : Log) (r : Turn) (u : List ℕ) : Type 0 where
-  pub is : (so : phase.Phase) → Lists ph kind so → (k : List ℕ) → TurnOf set w base p k t log ph r u
+pub record Stays (kind : ℕ) (so : phase.Phase) (l : List ℕ) : Type 0 where
+  pub is : (at : ℕ) (whole : List ℕ) → clean whole ≡ l → reacts so at whole ≡ then (ev kind at (length l) Unsaid ∷ []) so
 
-abbrev pub LinedIs : Settings → List ℕ → ℕ → ℕ → Phase → ℕ → List ℕ → Log → Lined → List ℕ → Type 0
-LinedIs set w base p ph kind t log (lined.To end e next) u = LinedTo set w base p kind t log end e next u
-LinedIs set w base p ph kind t log (lined.Left r) u = LinedLeft set w base p ph kind t log r u
+abbrev pub Said : ℕ → phase.Phase → List ℕ → ℕ → Option Phase → Type 0
+Said kind so l to (Some r) = Leads kind so l to r
+Said kind so l to None = Stays kind so l
+
+-- a phase that lists its one line, clean, under a kind, and the one that follows
+pub record Gives (ph : Phase) (kind : ℕ) (next : Phase) (so to : phase.Phase) : Type 0 where
+  pub stands : (k : List ℕ) → state_of k ph ≡ fresh (reads so)
+  pub fits : (at : ℕ) → Fits ph at
+  pub wants : wants so ≡ a_line
+  pub enters : (k : List ℕ) (at : ℕ) → Enters k (reads to) at next
+  pub is : (at : ℕ) (l : List ℕ) → reacts so at l ≡ then (ev kind at (length (clean l)) Unsaid ∷ []) to
 
 -- ---- headers
 
@@ -266,8 +280,8 @@ pub record BegunIs (re : Reaction State) (to : ℕ) (k t : List ℕ) (log : Log)
 
 -- a deeper multipart: no events
 pub record DeeperIs (m : Mail) (k : List ℕ) (i to : ℕ) (r : Phase) : Type 0 where
-  pub still : (e : Encoding) → (begun m e (some (slot k i)) (outside k i) to).events ≡ []
-  pub enters : (e : Encoding) → Enters k (begun m e (some (slot k i)) (outside k i) to).next to r
+  pub still : (e : Encoding) → (begun m e (Some (slot k i)) (outside k i) to).events ≡ []
+  pub enters : (e : Encoding) → Enters k (begun m e (Some (slot k i)) (outside k i) to).next to r
 
 -- ---- reads up to a delimiter for b, by lines: `f here` is such a read under way, `end to` what follows where it ends at `to`
 pub record ByLines (set : Settings) (b : List ℕ) (f : Bool → Stand) (end : ℕ → Reaction State) : Type 0 where
@@ -288,9 +302,14 @@ pub record Waits (w : List ℕ) (p : ℕ) (b : List ℕ) (here : Bool) (q : ℕ)
   pub is : (set : Settings) (f : Bool → Stand) (end : ℕ → Reaction State) → ByLines set b f end
       → (base : ℕ) → pieces set (f here) (base + p) (drop p w) ≡ stay (f there) (base + q) (drop q w)
 
-abbrev pub SoughtIs : List ℕ → ℕ → List ℕ → Bool → Sought → Type 0
-SoughtIs w p b here (sought.Found e) = Found w p b here e
-SoughtIs w p b here (sought.Waits q there) = Waits w p b here q there
+abbrev pub SoughtIs : List ℕ → ℕ → List ℕ → Bool → Result ℕ Pause → Type 0
+SoughtIs w p b here (Ok e) = Found w p b here e
+SoughtIs w p b here (Err q) = Waits w p b here q.at q.may
+
+-- one byte less than a literal's rest, if there is one and it is below n
+abbrev pub short_of : ℕ → ℕ → Option ℕ
+short_of zero n = None
+short_of (suc x) n = cond (ltb (suc x) n) (Some x) None
 
 -- ---- the loop over phases
 pub record Ready (w : List ℕ) (base : ℕ) (k : List ℕ) (s : Spot) : Type 0 where
@@ -298,7 +317,7 @@ pub record Ready (w : List ℕ) (base : ℕ) (k : List ℕ) (s : Spot) : Type 0 
   pub slots : Slots k
   pub fits : Fits s.phase (base + s.taken)
 
-pub record Turned (set : Settings) (w : List ℕ) (base : ℕ) (k t : List ℕ) (s : Spot) (k' : List ℕ) (r : Turn) (u : List ℕ) : Type 0 where
+pub record Turned (set : Settings) (w : List ℕ) (base : ℕ) (k t : List ℕ) (s : Spot) (k' : List ℕ) (r : Result Spot Spot) (u : List ℕ) : Type 0 where
   pub slots : Slots k'
   pub is : TurnIs set w base s.taken k' t s.log (state_of k s.phase) r u
 

@@ -1,49 +1,37 @@
 // Bodies with no boundary: lines up to a dot line, or what a literal has left. Ports `body` of common.rs and `size_body` of imap.rs.
 ghost use Rattle.std.specs.Prelude.{List, ℕ, ◌+◌, ◌≤◌, length};
-ghost use Rattle.rules.specs.Sessions.{limit};
 ghost use Rattle.phases.specs.Phasing.{TurnOf};
 
-use crate::strict::{halted, line};
+use crate::strict::Window;
 use crate::turns::{after_mail, onward, over};
 use crate::{Phase, Spot, Turn};
-use events::{BODY_LINE, BODY_STOP, Encoding, Log, SIZED_BODY};
-use reads::{Noted, Read, hold, note};
-use rules::{Mail, Settings};
+use events::{Encoding, Kind, Log};
+use reads::{hold, note};
+use rules::Mail;
 
 pub fn text(
-    settings: Settings,
-    w: &[u8],
-    base: usize,
+    w: Window,
     at: usize,
     mail: Mail,
     encoding: Encoding,
     table: &mut [u32],
-    log: Log,
+    mut log: Log,
 ) -> Turn
-    requires { (base + length w.now ≤ limit) × (at ≤ length w.now) }
-    ensures { (k : List ℕ) → TurnOf settings w.now base at k table.old log (Phase.Text mail encoding) result table.new }
+    requires { at ≤ length w.bytes.now }
+    ensures { (k : List ℕ) → TurnOf w.entry.settings w.entry.bytes.now w.entry.base at k table.old log (Phase.Text mail encoding) result table.new }
 {
     let mut p = at;
-    let mut log = log;
     loop {
-        match line(settings, w, p) {
-            Read::Stop(o) => {
-                return halted(o, Phase::Text(mail, encoding), base, p, log);
-            }
-            Read::To(e) => {
-                if reading::equals(&w[p..e], b".\r\n") {
-                    let noted = note(table, log, BODY_STOP, base + p, 0, Encoding::Unsaid);
-                    return onward(noted, after_mail(mail, base + e), e);
-                }
-                match note(table, log, BODY_LINE, base + p, e - p, encoding) {
-                    Noted::Stopped(a) => {
-                        return over(a, e);
-                    }
-                    Noted::Written(next) => {
-                        p = e;
-                        log = next;
-                    }
-                }
+        let e = w.line(p, Phase::Text(mail, encoding), log)?;
+        if reading::equals(&w.bytes[p..e], b".\r\n") {
+            let noted = note(table, log, Kind::BodyStop, w.base + p, 0, Encoding::Unsaid);
+            return Ok(onward(noted, after_mail(mail, w.base + e), e));
+        }
+        match note(table, log, Kind::BodyLine, w.base + p, e - p, encoding) {
+            Err(a) => return Ok(over(a, e)),
+            Ok(next) => {
+                p = e;
+                log = next;
             }
         }
     }
@@ -51,8 +39,7 @@ pub fn text(
 
 // A literal that began at the session's place `from`, and wants left + 1 bytes: all that are shown are taken.
 pub fn literal(
-    w: &[u8],
-    base: usize,
+    w: Window,
     p: usize,
     encoding: Encoding,
     from: usize,
@@ -60,19 +47,25 @@ pub fn literal(
     table: &mut [u32],
     log: Log,
 ) -> Turn
-    requires { (base + length w.now ≤ limit) × (p ≤ length w.now) × (from ≤ base + p) }
-    ensures { (set : Settings) (k : List ℕ) → TurnOf set w.now base p k table.old log (Phase.Literal encoding from left) result table.new }
+    requires { (p ≤ length w.bytes.now) × (from ≤ w.base + p) }
+    ensures { (set : _) (k : List ℕ) → TurnOf set w.entry.bytes.now w.entry.base p k table.old log (Phase.Literal encoding from left) result table.new }
 {
-    let shown = (w.len() - p) as u64;
+    let shown = (w.bytes.len() - p) as u64;
     if shown <= left {
-        let phase = Phase::Literal(encoding, from, left - shown);
-        return Turn::Stop(Spot {
-            phase,
-            taken: w.len(),
+        return Err(Spot {
+            phase: Phase::Literal(encoding, from, left - shown),
+            taken: w.bytes.len(),
             log,
         });
     }
     let e = p + left as usize + 1;
-    let noted = hold(table, log, SIZED_BODY, from, base + e - from, encoding);
-    onward(noted, Phase::Closing, e)
+    let noted = hold(
+        table,
+        log,
+        Kind::SizedBody,
+        from,
+        w.base + e - from,
+        encoding,
+    );
+    Ok(onward(noted, Phase::Closing, e))
 }

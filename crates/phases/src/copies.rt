@@ -1,6 +1,6 @@
 // Copies of the open boundaries: 72 bytes for each level, its length first. A boundary that is too long keeps 71 of its bytes, which tells.
-ghost use Rattle.std.specs.Prelude.{◌≡◌, ◌+◌, ◌*◌, ◌≤◌, ◌<◌, min, length, get_or};
-ghost use Rattle.phases.specs.Phasing.{Kept};
+ghost use Rattle.std.specs.Prelude.{◌≡◌, ◌+◌, ◌*◌, ◌≤◌, ◌<◌, length, get_or};
+ghost use Rattle.phases.specs.Phasing.{Kept, Slots, slot};
 
 pub const SLOT: usize = 72;
 
@@ -11,24 +11,10 @@ pub fn keep(kept: &mut [u8], level: usize, b: &[u8])
     requires { level * 72 + 72 ≤ length kept.old }
     ensures { Kept kept.old level b.now kept.new }
 {
-    let n = clipped(b.len());
+    let n = b.len().min(LONGEST + 1);
     let first = level * SLOT + 1;
-    let mut j = 0;
-    while j < n {
-        kept[first + j] = b[j];
-        j += 1;
-    }
-    let o = level * SLOT;
-    kept[o] = n as u8;
-}
-
-fn clipped(n: usize) -> usize
-    ensures { (result ≡ min 71 n) × (result ≤ 71) }
-{
-    if n < LONGEST + 1 {
-        return n;
-    }
-    LONGEST + 1
+    kept[first..first + n].copy_from_slice(&b[..n]);
+    kept[first - 1] = n as u8;
 }
 
 // How long the boundary of a level is.
@@ -37,4 +23,13 @@ pub fn length_at(kept: &[u8], level: usize) -> usize
     ensures { result ≡ get_or kept.now (level * 72) 0 }
 {
     kept[level * SLOT] as usize
+}
+
+// The boundary of a level.
+pub fn boundary(kept: &[u8], level: usize) -> &[u8]
+    requires { (level ≤ 7) × Slots kept.now }
+    ensures { result.now ≡ slot kept.now level }
+{
+    let first = level * SLOT + 1;
+    &kept[first..first + length_at(kept, level)]
 }

@@ -1,14 +1,14 @@
 // The phases of a session by windows: each reads on where a window left it, up to the window's end or to another phase. One function for each group of phases,
-// and a loop over phases above them. `w` is a window, `base` the session's place of its first byte, p a place in it; `kept` holds copies of the open boundaries.
+// and a loop over phases above them. `w` is a window, p a place in it; `kept` holds copies of the open boundaries.
 #![tactic(auto)]
 
-ghost use Rattle.std.specs.Prelude.{◌≡◌, cond, ◌+◌, ◌≤◌, eqb, length};
-ghost use Rattle.events.specs.Events.{result_number};
+ghost use Rattle.std.specs.Prelude.{◌≡◌, ◌+◌, ◌≤◌, length};
 ghost use Rattle.rules.specs.Sessions.{limit};
 ghost use Rattle.phases.specs.Phasing.{Ready, Turned, Went, ended_of};
 
 use events::{Encoding, Log, Outcome};
 use rules::{Mail, Settings};
+use strict::Window;
 
 mod bodies;
 mod copies;
@@ -63,11 +63,7 @@ pub struct Spot {
 }
 
 // On to another phase, by a byte at least; or the window is over.
-#[derive(Clone, Copy)]
-pub enum Turn {
-    On(Spot),
-    Stop(Spot),
-}
+pub type Turn = Result<Spot, Spot>;
 
 // Phases up to the window's end.
 pub fn advance(
@@ -81,86 +77,67 @@ pub fn advance(
     requires { (base + length w.now ≤ limit) × Ready w.now base kept.old spot }
     ensures { Went settings w.now base kept.old table.old spot kept.new result table.new }
 {
+    let window = Window::new(settings, w, base);
     let mut now = spot;
     loop {
-        match one_phase(settings, now, w, base, kept, table) {
-            Turn::On(next) => {
-                now = next;
-            }
-            Turn::Stop(last) => {
-                return last;
-            }
+        match one_phase(window, now, kept, table) {
+            Ok(next) => now = next,
+            Err(last) => return last,
         }
     }
 }
 
-fn one_phase(
-    settings: Settings,
-    spot: Spot,
-    w: &[u8],
-    base: usize,
-    kept: &mut [u8],
-    table: &mut [u32],
-) -> Turn
-    requires { (base + length w.now ≤ limit) × Ready w.now base kept.old spot }
-    ensures { Turned settings w.now base kept.old table.old spot kept.new result table.new }
+fn one_phase(w: Window, spot: Spot, kept: &mut [u8], table: &mut [u32]) -> Turn
+    requires { Ready w.bytes.now w.base kept.old spot }
+    ensures { Turned w.entry.settings w.entry.bytes.now w.entry.base kept.old table.old spot kept.new result table.new }
 {
-    let phase = spot.phase;
-    let p = spot.taken;
-    let log = spot.log;
+    let Spot {
+        phase,
+        taken: p,
+        log,
+    } = spot;
     match phase {
-        Phase::Hello => envelope::hello(settings, w, base, p, log),
-        Phase::Second => envelope::second(settings, w, base, p, table, log),
-        Phase::User => envelope::user(settings, w, base, p, table, log),
-        Phase::Password => envelope::password(settings, w, base, p, table, log),
-        Phase::Sender => envelope::sender(settings, w, base, p, table, log),
-        Phase::Seeking => envelope::seeking(settings, w, base, p, table, log),
-        Phase::Recipient => envelope::recipients(settings, w, base, p, table, log),
-        Phase::Reply => lines::replies(settings, w, base, p, table, log),
-        Phase::Status => lines::statuses(settings, w, base, p, table, log),
-        Phase::Command => lines::commands(settings, w, base, p, table, log),
-        Phase::Offered(size) => lines::offered(settings, w, base, p, size, kept, table, log),
-        Phase::Closing => lines::closing(w, base, p, log),
+        Phase::Hello => envelope::hello(w, p, log),
+        Phase::Second => envelope::second(w, p, table, log),
+        Phase::User => envelope::user(w, p, table, log),
+        Phase::Password => envelope::password(w, p, table, log),
+        Phase::Sender => envelope::sender(w, p, table, log),
+        Phase::Seeking => envelope::seeking(w, p, table, log),
+        Phase::Recipient => envelope::recipients(w, p, table, log),
+        Phase::Reply => lines::replies(w, p, table, log),
+        Phase::Status => lines::statuses(w, p, table, log),
+        Phase::Command => lines::commands(w, p, table, log),
+        Phase::Offered(size) => lines::offered(w, p, size, kept, table, log),
+        Phase::Closing => lines::closing(w, p, log),
         Phase::Head(mail, heard, level) => {
-            header::head(settings, w, base, p, mail, heard, level, kept, table, log)
+            header::head(w, p, mail, heard, level, kept, table, log)
         }
-        Phase::Text(mail, encoding) => bodies::text(
-            settings, w, base, p, mail, encoding, table, log,
-        ),
+        Phase::Text(mail, encoding) => bodies::text(w, p, mail, encoding, table, log),
         Phase::Literal(encoding, from, left) => {
-            bodies::literal(w, base, p, encoding, from, left, table, log)
+            bodies::literal(w, p, encoding, from, left, table, log)
         }
         Phase::Preamble(mail, level, from, here) => {
-            parts::preamble(w, base, p, mail, level, from, here, kept, log)
+            parts::preamble(w, p, mail, level, from, here, kept, log)
         }
-        Phase::Opened(mail, level) => parts::opened(w, base, p, mail, level, log),
+        Phase::Opened(mail, level) => parts::opened(w, p, mail, level, log),
         Phase::Content(mail, said, level, from, here) => {
-            parts::content(w, base, p, mail, said, level, from, here, kept, table, log)
+            parts::content(w, p, mail, said, level, from, here, kept, table, log)
         }
-        Phase::Between(mail, level) => parts::between(w, base, p, mail, level, kept, log),
-        Phase::Skipping(mail, level) => parts::skipping(
-            settings, w, base, p, mail, level, kept, log,
-        ),
-        Phase::Resting(mail, level, left) => parts::resting(w, base, p, mail, level, left, log),
-        Phase::Over(result, place) => ended(result, place, p, log),
+        Phase::Between(mail, level) => parts::between(w, p, mail, level, kept, log),
+        Phase::Skipping(mail, level) => parts::skipping(w, p, mail, level, kept, log),
+        Phase::Resting(mail, level, left) => parts::resting(w, p, mail, level, left, log),
+        Phase::Over(result, place) => Err(ended(result, place, p, log)),
     }
 }
 
-// The session is over, and stays so.
-fn ended(res: Outcome, place: usize, p: usize, log: Log) -> Turn
+// The session is over, and stays so: done takes what was read, a refusal nothing.
+fn ended(res: Outcome, place: usize, p: usize, log: Log) -> Spot
     ensures { result ≡ ended_of res place p log }
 {
-    let phase = Phase::Over(res, place);
-    let taken = settled(res, p);
-    Turn::Stop(Spot { phase, taken, log })
-}
-
-// Done takes what was read, a refusal nothing.
-fn settled(res: Outcome, p: usize) -> usize
-    ensures { result ≡ cond (eqb (result_number res) 0) p 0 }
-{
-    if events::result_number(res) == 0 {
-        return p;
+    let taken = if res == Outcome::Done { p } else { 0 };
+    Spot {
+        phase: Phase::Over(res, place),
+        taken,
+        log,
     }
-    0
 }

@@ -1,57 +1,95 @@
-// Lines as a session's settings let them be read, and how a phase is left where one is not.
+// A window, and its lines as the session's settings let them be read.
 ghost use Rattle.std.specs.Prelude.{◌≡◌, ◌&&◌, ◌+◌, ◌≤◌, ◌<◌, length};
 ghost use Rattle.fields.specs.Common.{part};
 ghost use Rattle.reading.specs.Bytes.{ends_with};
 ghost use Rattle.reading.specs.Reading.{a_line, crlf};
 ghost use Rattle.rules.specs.Sessions.{limit};
 ghost use Rattle.rules.specs.Strict.{is_bare};
-ghost use Rattle.phases.specs.Phasing.{LineIs, CleanLineIs, halted_of};
 
-use crate::{Phase, Spot, Turn};
+use crate::{Phase, Spot};
 use events::{Log, Outcome};
-use reads::{Clean, Read};
+use reads::{CleanLine, Two};
 use rules::Settings;
 
-// With the strict setting, a line that does not end in CRLF stops the session where the line begins.
-pub fn line(settings: Settings, w: &[u8], p: usize) -> Read
-    requires { p ≤ length w.now }
-    ensures { LineIs settings w.now p result }
-{
-    match reads::line(w, p) {
-        Read::Stop(o) => Read::Stop(o),
-        Read::To(e) => {
-            if refuses(settings, w, p, e) {
-                return Read::Stop(Outcome::BareLf);
-            }
-            Read::To(e)
-        }
-    }
+// `base` is the session's place of the first byte.
+#[derive(Clone, Copy)]
+pub struct Window<'a> {
+    pub settings: Settings,
+    pub bytes: &'a [u8],
+    pub base: usize,
+    ghost within: { base + length bytes.now ≤ limit },
 }
 
-pub fn clean_line(settings: Settings, w: &[u8], p: usize) -> Clean
-    requires { p ≤ length w.now }
-    ensures { CleanLineIs settings w.now p result }
-{
-    match reads::clean_line(w, p) {
-        Clean::Stop(o) => Clean::Stop(o),
-        Clean::To(end, e) => {
-            if refuses(settings, w, p, e) {
-                return Clean::Stop(Outcome::BareLf);
-            }
-            Clean::To(end, e)
+impl<'a> Window<'a> {
+    ghost use Rattle.phases.specs.Phasing.{LineIs, CleanLineIs, PassIs, PairIs};
+
+    pub fn new(settings: Settings, bytes: &'a [u8], base: usize) -> Self
+        requires { base + length bytes.now ≤ limit }
+        ensures { (result.settings ≡ settings) × (result.bytes ≡ bytes.entry) × (result.base ≡ base) }
+    {
+        Self {
+            settings,
+            bytes,
+            base,
         }
     }
-}
 
-// The line from p up to e.
-fn refuses(settings: Settings, w: &[u8], p: usize, e: usize) -> bool
-    requires { (p < e) × (e ≤ length w.now) }
-    ensures { result ≡ (is_bare a_line (part w.now p e) && settings.strict) }
-{
-    if settings.strict {
-        return bare(w, p, e);
+    // The phase waits where no line is finished.
+    pub fn line(self, p: usize, phase: Phase, log: Log) -> Result<usize, Spot>
+        requires { p ≤ length self.bytes.now }
+        ensures { LineIs self.entry.settings self.entry.bytes.now self.entry.base p phase log result }
+    {
+        let Ok(end) = reads::line(self.bytes, p) else {
+            return Err(Spot {
+                phase,
+                taken: p,
+                log,
+            });
+        };
+        self.pass(p, end, log)?;
+        Ok(end)
     }
-    false
+
+    pub fn clean_line(self, p: usize, phase: Phase, log: Log) -> Result<CleanLine, Spot>
+        requires { p ≤ length self.bytes.now }
+        ensures { CleanLineIs self.entry.settings self.entry.bytes.now self.entry.base p phase log result }
+    {
+        let Ok(line) = reads::clean_line(self.bytes, p) else {
+            return Err(Spot {
+                phase,
+                taken: p,
+                log,
+            });
+        };
+        self.pass(p, line.end, log)?;
+        Ok(line)
+    }
+
+    pub fn two_bytes(self, p: usize, phase: Phase, log: Log) -> Result<Two, Spot>
+        requires { p ≤ length self.bytes.now }
+        ensures { PairIs self.entry.bytes.now p phase log result }
+    {
+        reads::two_bytes(self.bytes, p).map_err(|_| Spot {
+            phase,
+            taken: p,
+            log,
+        })
+    }
+
+    // With the strict setting, a line from p up to e that does not end in CRLF stops the session where it begins, and the window takes nothing.
+    fn pass(self, p: usize, e: usize, log: Log) -> Result<(), Spot>
+        requires { (p < e) × (e ≤ length self.bytes.now) }
+        ensures { PassIs self.entry.settings self.entry.bytes.now self.entry.base p e log result }
+    {
+        if self.settings.strict && bare(self.bytes, p, e) {
+            return Err(Spot {
+                phase: Phase::Over(Outcome::BareLf, self.base + p),
+                taken: 0,
+                log,
+            });
+        }
+        Ok(())
+    }
 }
 
 // Of a line of four bytes or more one byte tells, where its last is LF; and it is no dot line, so that the compiler asks no more of it.
@@ -72,23 +110,4 @@ fn ends_in_crlf(l: &[u8]) -> bool
     ensures { result ≡ ends_with crlf l.now }
 {
     reading::ends_with(l, b"\r\n")
-}
-
-// No line is finished, and the phase waits; or the line is refused, and the window takes nothing.
-pub fn halted(res: Outcome, phase: Phase, base: usize, p: usize, log: Log) -> Turn
-    requires { base + p ≤ limit }
-    ensures { result ≡ halted_of res phase (base + p) p log }
-{
-    if events::result_number(res) == 1 {
-        return Turn::Stop(Spot {
-            phase,
-            taken: p,
-            log,
-        });
-    }
-    Turn::Stop(Spot {
-        phase: Phase::Over(res, base + p),
-        taken: 0,
-        log,
-    })
 }

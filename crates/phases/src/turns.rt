@@ -4,35 +4,33 @@ ghost use Rattle.reads.specs.Clauses.{Begins};
 ghost use Rattle.phases.specs.Phasing.{over_of, onward_of, unheard, Enters, outside};
 ghost use Rattle.rules.specs.Mail.{after_mail, popped};
 
-use crate::{Heard, Phase, Spot, Turn};
-use events::{Encoding, Outcome};
-use reads::{Noted, Stop};
+use crate::{Heard, Phase, Spot};
+use events::{Encoding, Log, Outcome};
+use reads::Stop;
 use rules::Mail;
 
 // The session is over behind e.
-pub fn over(a: Stop, e: usize) -> Turn
+pub fn over(a: Stop, e: usize) -> Spot
     ensures { result ≡ over_of a e }
 {
-    let result = a.result;
-    let log = a.log;
-    Turn::On(Spot {
-        phase: Phase::Over(result, a.place),
+    Spot {
+        phase: Phase::Over(a.result, a.place),
         taken: e,
-        log,
-    })
+        log: a.log,
+    }
 }
 
 // On to a phase behind e, its events being written; or the session is over.
-pub fn onward(noted: Noted, phase: Phase, e: usize) -> Turn
+pub fn onward(noted: Result<Log, Stop>, phase: Phase, e: usize) -> Spot
     ensures { result ≡ onward_of noted phase e }
 {
     match noted {
-        Noted::Written(log) => Turn::On(Spot {
+        Ok(log) => Spot {
             phase,
             taken: e,
             log,
-        }),
-        Noted::Stopped(a) => over(a, e),
+        },
+        Err(a) => over(a, e),
     }
 }
 

@@ -5,7 +5,7 @@ use mathlib.Core.List.{List}
 use Prim.Native.Nat.{ℕ}
 use Rattle.events.specs.Table.{Final, Puts}
 use Rattle.events.specs.declared.Event.{Event}
-use Rattle.events.specs.declared.Listed.{Listed}
+use Rattle.std.specs.Prelude.{Option}
 use Rattle.events.specs.declared.Log.{Log}
 use Rattle.fields.specs.Common.{Known, known_of, Says}
 use Rattle.fields.specs.declared.common.Scan.{Scan}
@@ -25,7 +25,7 @@ unfolding exit_of
 entries e t s x y h g = ap exit_of (h.is ∙ sym g.is)
 
 -- `put`: its answer and the table
-pub puts : {t u v : List ℕ} {log : Log} {e : Event} {r q : Listed} → Puts t log e r u → Puts t log e q v → (r ≡ q) × (u ≡ v)
+pub puts : {t u v : List ℕ} {log : Log} {e : Event} {r q : Option Log} → Puts t log e r u → Puts t log e q v → (r ≡ q) × (u ≡ v)
 puts h g = (h.answer ∙ sym g.answer, h.table ∙ sym g.table)
 
 -- `scan_line`: the boundary's bytes, not which of two equal runs of bytes in the header is meant

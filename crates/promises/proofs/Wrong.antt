@@ -3,7 +3,7 @@
 use mathlib.Core.Path.{◌≡◌, refl}
 use mathlib.Core.Bool.{Bool, true, false}
 use mathlib.Core.List.{List, [], ◌∷◌, ◌++◌, map}
-use mathlib.Core.Option.{Option, none, some}
+use Rattle.std.specs.Prelude.{Option, None, Some}
 use Prim.Native.Nat.{ℕ}
 use lib.ListN.{length, replicate}
 use Rattle.classes.specs.Classes.{is_white, is_blank, is_pop_white, is_digit, is_letter, is_upper, upper_of}
@@ -14,29 +14,20 @@ use Rattle.events.specs.Table.{Final, no_events, store, pour, finish, table_of}
 use Rattle.events.specs.declared.Encoding.TheVariants.{Unsaid, Base64}
 use Rattle.events.specs.declared.Outcome.TheVariants.{TooDeep}
 use Rattle.utf8.specs.Utf8.{octets_of, is_scalar, is_space, is_tail, lawful, sequence, opened, character, onto, behind, characters, size, is_utf8, dark_lead, dark_end}
-use Rattle.fields.specs.Common.{encoding_named, behind_spaces, transfer_encoding, closed, quoted, unquoted, typed, named, bare_parameter, parameter, content_type, content_type_ext}
-use Rattle.fields.specs.Common.{first_encoding, by_type, by_ext, by_boundary, scanned, unknown, dash_bdry}
+use Rattle.fields.specs.Common.{encoding_named, behind_spaces, transfer_encoding, closed, quoted, unquoted, typed, named, bare_parameter, parameter, content_type, content_type_ext, first_encoding, by_type, by_ext, by_boundary, scanned, unknown, dash_bdry}
 use Rattle.fields.specs.Imap.{append_follows, tag, is_append, dark, text_end, trimmed, braced, from_brace, size_of, append_size, holds_colon}
 use Rattle.fields.specs.Pop3.{stls_answer, octets, octets_follow, numbered, retr_answer}
-use Rattle.fields.specs.Runs.{runs, lead, last, last_place, through, worth_behind, worth, up_to}
+use Rattle.fields.specs.Runs.{lead, last, last_place, through, worth_behind, worth, up_to}
 use Rattle.fields.specs.Smtp.{starts_with_helo, is_mail_from, second_line, is_data, up_to_end, closing as closingAt, mail_from, required, rcpt_to}
-use Rattle.fields.specs.declared.common.Bdry.{Bdry}
-use Rattle.fields.specs.declared.common.Bdry.TheVariants as bdry
+use Rattle.reading.specs.declared.Span.{Span}
 use Rattle.fields.specs.declared.common.ContentType.{ContentType}
 use Rattle.fields.specs.declared.common.ContentType.TheVariants as kind
-use Rattle.fields.specs.declared.runs.Number.{Number}
-use Rattle.fields.specs.declared.runs.Number.TheVariants as number
-use Rattle.fields.specs.declared.runs.Run.TheVariants as run
-use Rattle.fields.specs.declared.smtp.Address.{Address}
-use Rattle.fields.specs.declared.smtp.Address.TheVariants as address
 use Rattle.fields.specs.declared.smtp.Second.{Second}
 use Rattle.fields.specs.declared.smtp.Second.TheVariants as line
 use Rattle.reading.proofs.Rows.{Row, ◌is-neither◌nor◌, met}
 use Rattle.reading.specs.Bytes.{starts_with, same, ends_with, raised, first, first_place, holds, stands, found, contains}
 use Rattle.reading.specs.Reading.{clean, drop_end, may_stand, delimits, past, reach, parted, fetch, a_line}
 use Rattle.reading.specs.Text.{text}
-use Rattle.reading.specs.declared.Place.{Place}
-use Rattle.reading.specs.declared.Place.TheVariants.{At, Nowhere}
 use Rattle.rules.specs.Imap.{on_command, on_offered}
 use Rattle.rules.specs.Machine.{turn, go, run as runs_on}
 use Rattle.rules.specs.Mail.{after_mail, plain_mail, boundary_free, begun, on_head, on_text}
@@ -69,30 +60,30 @@ says_no =
 pub neither_always_nor_never : (says_yes ≡ replicate 22 true) × (says_no ≡ replicate 22 false)
 unfolding is_white is_blank is_pop_white is_digit is_letter is_upper upper_of starts_with same ends_with raised contains found first first_place stands holds
     dash_bdry is_append tag is_utf8 size dark_lead is_space characters behind onto character opened sequence lawful is_tail is_scalar octets_of append_follows lead
-    runs holds_colon stls_answer retr_answer numbered octets octets_follow worth worth_behind starts_with_helo is_mail_from is_data
+    holds_colon stls_answer retr_answer numbered octets octets_follow worth worth_behind starts_with_helo is_mail_from is_data
 neither_always_nor_never = (refl, refl)
 
 -- ---- answers as numbers
-abbrev place : Place → List ℕ
-place (At p) = p ∷ []
-place Nowhere = []
+abbrev place : Option ℕ → List ℕ
+place (Some p) = p ∷ []
+place None = []
 
-abbrev bound : Bdry → List ℕ
-bound (bdry.Of o n) = o ∷ n ∷ []
-bound bdry.Unsupplied = []
+abbrev bound : Option Span → List ℕ
+bound (Some b) = b.at ∷ b.len ∷ []
+bound None = []
 
 abbrev type : ContentType → List ℕ
 type kind.Other = 0 ∷ []
 type kind.Plain = 1 ∷ []
-type (kind.Bounded o n) = 2 ∷ o ∷ n ∷ []
+type (kind.Bounded b) = 2 ∷ b.at ∷ b.len ∷ []
 
-abbrev worth_of : Number → List ℕ
-worth_of (number.Worth n) = n ∷ []
-worth_of number.TooBig = []
+abbrev worth_of : Option ℕ → List ℕ
+worth_of (Some n) = n ∷ []
+worth_of None = []
 
-abbrev found_at : Address → List ℕ
-found_at (address.Given o n) = o ∷ n ∷ []
-found_at address.Missing = []
+abbrev found_at : Option Span → List ℕ
+found_at (Some s) = s.at ∷ s.len ∷ []
+found_at None = []
 
 abbrev second : Second → List ℕ
 second line.StartTls = 0 ∷ []
@@ -101,8 +92,8 @@ second line.MailFrom = 2 ∷ []
 second line.Other = 3 ∷ []
 
 abbrev known : Option (List ℕ) → List ℕ
-known (some b) = b
-known none = []
+known (Some b) = b
+known None = []
 
 abbrev uuencoded : List ℕ
 uuencoded = text "Content-Transfer-Encoding: x-uuencode\r\n"
@@ -149,7 +140,7 @@ leaves =
     (dark_lead (characters (97 ∷ 0xc2 ∷ 0xa0 ∷ [])) ∷ [] is-neither 3 ∷ [] nor 2 ∷ []) ∷
     (dark_end (characters (97 ∷ 0xc2 ∷ 0xa0 ∷ [])) ∷ [] is-neither 3 ∷ [] nor 2 ∷ []) ∷
     -- leading: one too many; none
-    (lead run.Digits (text "12a") ∷ [] is-neither 3 ∷ [] nor 0 ∷ []) ∷
+    (lead is_digit (text "12a") ∷ [] is-neither 3 ∷ [] nor 0 ∷ []) ∷
     -- find_last: the first place; none
     (place (last_place (holds 98 (text "abb")) (text "abb")) is-neither 1 ∷ [] nor []) ∷
     -- decimal: above its bound; in the other order
@@ -195,7 +186,7 @@ dissectors =
 pub wrong_answers : map met (leaves ++ dissectors) ≡ replicate 30 false
 unfolding answer settle result_of place_of react reacts need wants runs_on go turn fetch parted reach past first first_place holds stands found contains
     delimits may_stand starts_with same ends_with raised clean drop_end upper_of is_letter is_upper is_white is_blank is_pop_white is_digit store pour finish
-    lead runs last last_place through worth worth_behind up_to transfer_encoding encoding_named behind_spaces closed quoted unquoted typed named bare_parameter
+    lead last last_place through worth worth_behind up_to transfer_encoding encoding_named behind_spaces closed quoted unquoted typed named bare_parameter
     parameter content_type content_type_ext first_encoding by_type by_ext by_boundary scanned dash_bdry starts_with_helo is_mail_from second_line is_data up_to_end
     closingAt mail_from required rcpt_to stls_answer octets octets_follow numbered retr_answer append_follows tag is_append dark text_end trimmed braced
     is_utf8 size dark_lead dark_end is_space characters behind onto character opened sequence lawful is_tail is_scalar octets_of from_brace size_of

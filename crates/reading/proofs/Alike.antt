@@ -10,7 +10,7 @@ use lib.Seq.{take-length}
 use borrow.Author.Tests.{eqb-true, eqb-false, ltb-true, ltb-false}
 use Rattle.reading.specs.Bytes.{ends_with, first_place, holds}
 use Rattle.reading.specs.Reading.{crlf, drop_end, clean, Need, a_line, bytes, past, reach, Got, got, short, parted, fetch}
-use Rattle.reading.specs.declared.Place.TheVariants.{At}
+use Rattle.std.specs.Prelude.{Some}
 use Rattle.reading.proofs.Ends.{ends_short, ends_crlf, drop_end_none, drop_end_here, drop_end_not, drop_end_within, clean_length}
 use Rattle.reading.proofs.Pieces.{got_holds, got_reach, got_length, past_at}
 use Rattle.reading.proofs.Places.{by_test, first_moved}
@@ -34,7 +34,7 @@ pub got_cut : (need : Need) (s p r : List ℕ) (k : ℕ) → fetch need s ≡ go
 got_cut need s p r k e h = cut_if need s p r k (fetch need (take k s)) e h refl
 
 -- ---- a read that reaches the end of its bytes takes them all
-whole : (need : Need) (q : List ℕ) → reach need q ≡ At (length q) → fetch need q ≡ got q []
+whole : (need : Need) (q : List ℕ) → reach need q ≡ Some (length q) → fetch need q ≡ got q []
 unfolding fetch parted
 whole need q h = rw (h, take-length q, drop_of_length-le q (let g : length q ≤ length q = omega arith in g))
 
@@ -48,14 +48,14 @@ module _ (p q : List ℕ) (long : length q ≡ length p) where
       let f = past_at 1 (first_place (holds 10 p) p) e.0 e.1 in
       whole a_line q
       (rw (first_moved (holds 10 p) (holds 10 q) p q f.0 f.1 (λ k h. same k (omega (arith, f.2))) (omega (arith, f.2)))
-      (ap At (let m : f.0 + 1 ≡ length q = omega (arith, f.2) in m)))
+      (ap Some (let m : f.0 + 1 ≡ length q = omega (arith, f.2) in m)))
 
   -- a sized read hangs on how many bytes there are
   pub bytes_alike : (n : ℕ) → fetch (bytes n) p ≡ got p [] → fetch (bytes n) q ≡ got q []
   unfolding reach
   bytes_alike n g =
       let e = got_reach (bytes n) p p [] g in
-      whole (bytes n) q (rw long (e.1 ∙ ap At (sym (got_length (bytes n) p p [] g))))
+      whole (bytes n) q (rw long (e.1 ∙ ap Some (sym (got_length (bytes n) p p [] g))))
 
 -- ---- a clean line is as long where CR and LF are
 end_alike : (b : ℕ) (l m : List ℕ) (n : ℕ) → n ≤ length l → n ≤ length m → (0 < n → eqb (get_or m (n - 1) 0) b ≡ eqb (get_or l (n - 1) 0) b)

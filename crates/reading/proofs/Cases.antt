@@ -7,7 +7,7 @@ use Rattle.classes.specs.Classes.{upper_of, is_letter, is_upper}
 use Rattle.reading.specs.Text.{text}
 use Rattle.reading.specs.Bytes.{starts_with, same, ends_with, raised, first, first_place, holds, stands, found, contains}
 use Rattle.reading.specs.Reading.{drop_end, clean, may_stand, delimits, a_line, two, delimiter, past, reach, got, short, parted, fetch}
-use Rattle.reading.specs.declared.Place.TheVariants.{At, Nowhere}
+use Rattle.std.specs.Prelude.{Some, None}
 
 -- the place of the delimiter, and how far the read goes: content 3, ends at 8; content 0, ends at 3; none
 pub boundary-q :
@@ -17,7 +17,7 @@ pub boundary-q :
     ∷ reach (delimiter (text "q")) (text "--q")
     ∷ reach (delimiter (text "q")) (text "x--q")
     ∷ []
-    ≡ At 5 ∷ At 8 ∷ At 0 ∷ At 3 ∷ Nowhere ∷ []
+    ≡ Some 5 ∷ Some 8 ∷ Some 0 ∷ Some 3 ∷ None ∷ []
 unfolding reach first first_place past delimits may_stand ends_with same starts_with
 boundary-q = refl
 
@@ -31,7 +31,7 @@ pub further-q :
     ∷ reach (delimiter (text "q")) (text "\r\n--")
     ∷ reach (delimiter (text "")) (text "a\r\n--")
     ∷ []
-    ≡ Nowhere ∷ At 6 ∷ At 5 ∷ At 3 ∷ At 9 ∷ Nowhere ∷ At 5 ∷ []
+    ≡ None ∷ Some 6 ∷ Some 5 ∷ Some 3 ∷ Some 9 ∷ None ∷ Some 5 ∷ []
 unfolding reach first first_place past delimits may_stand ends_with same starts_with
 further-q = refl
 

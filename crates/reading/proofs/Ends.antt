@@ -1,18 +1,17 @@
 -- How lines end, and where delimiters may stand.
 -- Assumes nothing.
 use mathlib.Core.Path.{◌≡◌, refl, sym, ap, ◌∙◌}
-use mathlib.Core.Bool.{Bool, true, false, cond, ◌&&◌, and-true}
+use mathlib.Core.Bool.{Bool, true, false, cond, ◌&&◌, and-true, and-false}
 use mathlib.Core.List.{List, [], ◌∷◌}
 use Prim.Native.Nat.{ℕ, zero, suc, ◌+◌, ◌-◌, ◌≤◌, ◌<◌}
 use native.Mathlib.Omega.{arith}
 use lib.Dec.{eqb}
 use lib.ListN.{length, take, drop, get_or, length-take, length-drop, drop_of_length-le}
-use lib.Seq.{drop-drop, get_or-take, get_or-drop, length-take-le, take-length, take-take}
+use lib.Seq.{drop-drop, get_or-take, length-take-le, take-length, take-take}
 use borrow.Author.Tests.{eq-eqb, ne_eqb}
-use Rattle.reading.specs.Bytes.{starts_with, same, ends_with, holds, first_place}
-use Rattle.reading.specs.Reading.{drop_end, clean, dash, may_stand, delimits, past, reach, a_line}
-use Rattle.reading.specs.declared.Place.TheVariants.{At, Nowhere}
-use Rattle.reading.proofs.Words.{left_at, both_true, starts_append, starts_long, Compared, compared_none_yet, compared_all, compared_short, compared_differs, compared_on}
+use Rattle.reading.specs.Bytes.{starts_with, same, ends_with, stands}
+use Rattle.reading.specs.Reading.{drop_end, clean, dash, may_stand, delimits}
+use Rattle.reading.proofs.Words.{left_at, both_true, starts_append, starts_long}
 
 pub ends_short : (w l : List ℕ) → length l < length w → false ≡ ends_with w l
 unfolding ends_with same
@@ -105,46 +104,16 @@ clean_length l n m a b =
     let e : n ≡ length (drop_end (10 ∷ []) l) = a ∙ ap (λ (k : List ℕ). length (drop_end (10 ∷ []) k)) (take-length l) in
     b ∙ ap (λ (k : List ℕ). length (drop_end (13 ∷ []) k)) (ap (λ (i : ℕ). take i l) e ∙ drop_end_take (10 ∷ []) l)
 
--- ---- a line's end
-pub line_here : (s : List ℕ) {p : ℕ} → first_place (holds 10 s) s ≡ At p → At (p + 1) ≡ reach a_line s
-unfolding reach past
-line_here s h = rw h
-
-pub line_nowhere : (s : List ℕ) → first_place (holds 10 s) s ≡ Nowhere → Nowhere ≡ reach a_line s
-unfolding reach past
-line_nowhere s h = rw h
-
 -- ---- two hyphens at p
 module _ (s : List ℕ) (p : ℕ) (h : p < length s) where
   pub hyphens_not_first : (get_or s p 0 ≡ 45 → ⊥) → starts_with (dash []) (drop p s) ≡ false
   unfolding starts_with
   hyphens_not_first n = rw (left_at s p h, ne_eqb (get_or s p 0) 45 n)
 
-  pub hyphens_short : get_or s p 0 ≡ 45 → length s ≤ p + 1 → starts_with (dash []) (drop p s) ≡ false
-  unfolding starts_with
-  hyphens_short e l = rw (left_at s p h, eq-eqb (get_or s p 0) 45 e, drop_of_length-le s l)
-
-  pub hyphens_not_second : get_or s p 0 ≡ 45 → p + 1 < length s → (get_or s (p + 1) 0 ≡ 45 → ⊥) → starts_with (dash []) (drop p s) ≡ false
-  unfolding starts_with
-  hyphens_not_second e l n = rw (left_at s p h, eq-eqb (get_or s p 0) 45 e, left_at s (p + 1) l, ne_eqb (get_or s (p + 1) 0) 45 n)
-
-  pub hyphens_both : get_or s p 0 ≡ 45 → p + 1 < length s → get_or s (p + 1) 0 ≡ 45 → starts_with (dash []) (drop p s) ≡ true
-  unfolding starts_with
-  hyphens_both e l n = rw (left_at s p h, eq-eqb (get_or s p 0) 45 e, left_at s (p + 1) l, eq-eqb (get_or s (p + 1) 0) 45 n)
-
--- ---- a delimiter at p, by what was tested
-pub may_stand_first : (s : List ℕ) (p : ℕ) → p ≡ 0 → may_stand s p ≡ true
-unfolding may_stand
-may_stand_first s p e = rw e
-
+-- ---- where a delimiter may stand
 pub may_stand_later : (s : List ℕ) (p : ℕ) → (p ≡ 0 → ⊥) → may_stand s p ≡ ends_with (13 ∷ 10 ∷ []) (take p s)
 unfolding may_stand
 may_stand_later s p n = rw (ne_eqb p 0 n)
-
-pub may_stand_second : (s : List ℕ) (p : ℕ) → p < length s → p ≡ 1 → may_stand s p ≡ false
-may_stand_second s p h e =
-    let g : p ≤ length s = omega arith in
-    may_stand_later s p (λ z. omega arith) ∙ sym (ends_short (13 ∷ 10 ∷ []) (take p s) (omega (arith, length-take-le p s g)))
 
 swap : (a b c : Bool) → (a && (b && c)) ≡ ((b && a) && c)
 swap true b c = ap (λ (x : Bool). x && c) (sym (and-true b))
@@ -164,34 +133,15 @@ Opens s p = starts_with (dash []) (drop p s) && may_stand s p
 pub opens_not : (b s : List ℕ) (p : ℕ) → Opens s p ≡ false → delimits b s p ≡ false
 opens_not b s p h = delimits_is b s p ∙ ap (λ (x : Bool). x && starts_with b (drop (p + 2) s)) h
 
--- ---- the boundary behind two hyphens at p, compared up to k
-pub record Behind (b s : List ℕ) (p k : ℕ) : Type 0 where
-  pub opens : Opens s p ≡ true
-  pub room : p + 2 ≤ length s
-  pub compared : Compared b (drop (p + 2) s) k
+-- so there is room for them
+pub opens_room : (s : List ℕ) (p : ℕ) → Opens s p ≡ true → p + 2 ≤ length s
+opens_room s p h = omega (arith, starts_long (dash []) (drop p s) (both_true (starts_with (dash []) (drop p s)) (may_stand s p) h).0, length-drop p s)
 
-pub behind_none_yet : (b s : List ℕ) (p : ℕ) → Opens s p ≡ true → Behind b s p 0
-behind_none_yet b s p h = record {
-  opens = h;
-  room = omega (arith, starts_long (dash []) (drop p s) (both_true (starts_with (dash []) (drop p s)) (may_stand s p) h).0, length-drop p s);
-  compared = compared_none_yet b (drop (p + 2) s);
-}
+-- whether the boundary stands behind them decides
+pub stands_then : (b s : List ℕ) (p : ℕ) → Opens s p ≡ true → stands b s (p + 2) ≡ true → delimits b s p ≡ true
+unfolding stands
+stands_then b s p h t = delimits_is b s p ∙ rw (h, t)
 
-module _ {b s : List ℕ} {p k : ℕ} (h : Behind b s p k) where
-  decided : (t : Bool) → t ≡ starts_with b (drop (p + 2) s) → delimits b s p ≡ t
-  decided t e = delimits_is b s p ∙ ap (λ (x : Bool). x && starts_with b (drop (p + 2) s)) h.opens ∙ sym e
-
-  at_behind : get_or (drop (p + 2) s) k 0 ≡ get_or s (p + 2 + k) 0
-  at_behind = get_or-drop (p + 2) s k 0
-
-  pub behind_all : length b ≤ k → delimits b s p ≡ true
-  behind_all g = decided true (compared_all h.compared g)
-
-  pub behind_short : k < length b → length s - p - 2 ≤ k → delimits b s p ≡ false
-  behind_short g l = decided false (compared_short h.compared g (omega (arith, length-drop (p + 2) s)))
-
-  pub behind_differs : k < length b → k < length s - p - 2 → (get_or s (p + 2 + k) 0 ≡ get_or b k 0 → ⊥) → delimits b s p ≡ false
-  behind_differs g l n = decided false (compared_differs h.compared g (omega (arith, length-drop (p + 2) s)) (λ e. n (sym at_behind ∙ e)))
-
-  pub behind_on : k < length b → k < length s - p - 2 → get_or s (p + 2 + k) 0 ≡ get_or b k 0 → Behind b s p (k + 1)
-  behind_on g l e = record { opens = h.opens; room = h.room; compared = compared_on h.compared g (omega (arith, length-drop (p + 2) s)) (at_behind ∙ e) }
+pub stands_not : (b s : List ℕ) (p : ℕ) → stands b s (p + 2) ≡ false → delimits b s p ≡ false
+unfolding stands
+stands_not b s p f = delimits_is b s p ∙ rw (f, and-false)

@@ -6,4 +6,5 @@ pub mod Alike
 pub mod Passing
 pub mod Matching
 pub mod Rows
+pub mod Library
 mod Cases

@@ -1,7 +1,7 @@
 -- Searches that go on by many places at once: what a block without a place that passes shows, and what a search then has come to.
 -- Assumes nothing.
 use mathlib.Core.Path.{◌≡◌, refl, sym, ap, ◌∙◌}
-use mathlib.Core.Bool.{Bool, true, false, cond, ◌&&◌, ◌||◌, and-false}
+use mathlib.Core.Bool.{Bool, true, false, cond, ◌&&◌, ◌||◌}
 use mathlib.Core.List.{List, [], ◌∷◌}
 use Prim.Native.Nat.{ℕ, zero, suc, ◌+◌, ◌-◌, ◌≤◌, ◌<◌}
 use native.Mathlib.Nat.{add-zero}
@@ -10,19 +10,20 @@ use native.Mathlib.Omega.{arith}
 use lib.Dec.{eqb, leb}
 use lib.ListN.{length, take, drop, get_or, length-drop}
 use lib.Seq.{get_or-take, get_or-drop, length-take-le}
-use borrow.Author.Tests.{eqb-true, eqb-false, eq-eqb, ne_eqb, leb-true, leb-false}
-use Rattle.reading.specs.Blocks.{dashed, Passed}
+use borrow.Author.Tests.{eqb-true, eqb-false, eq-eqb, leb-true, leb-false}
+use Rattle.reading.specs.Blocks.{dashed, Passed, Next}
 use Rattle.reading.specs.Bytes.{starts_with, ends_with, first, found, holds}
 use Rattle.reading.specs.Reading.{dash, may_stand, delimits}
-use Rattle.reading.specs.declared.Place.TheVariants.{At, Nowhere}
+use Rattle.std.specs.Option.{unwrap_or}
+use Rattle.std.specs.Prelude.{Option, Some, None}
 use Rattle.reading.proofs.Ends.{opens_not, hyphens_not_first, may_stand_later}
-use Rattle.reading.proofs.Places.{by_test, Sought}
+use Rattle.reading.proofs.Places.{by_test, Sought, first_is, first_at, first_none}
 use Rattle.reading.proofs.Words.{same_is}
 
 module _ (test : ℕ → Bool) where
   -- ---- a block: whether one of the first i places passes
   found_if : (b : Bool) (p i : ℕ) → found (first test (p + 1) (suc i)) ≡ (found (first test (p + 1) i) || test (p + 1 + i)) → test p ≡ b
-      → found (cond b (At p) (first test (p + 1) (suc i))) ≡ (found (cond b (At p) (first test (p + 1) i)) || test (p + 1 + i))
+      → found (cond b (Some p) (first test (p + 1) (suc i))) ≡ (found (cond b (Some p) (first test (p + 1) i)) || test (p + 1 + i))
   unfolding found
   found_if true p i h e = refl
   found_if false p i h e = h
@@ -31,7 +32,7 @@ module _ (test : ℕ → Bool) where
   unfolding found first
   found_suc p zero = let z : p + 0 ≡ p = omega arith in rw z (only (test p))
     where
-      only : (b : Bool) → found (cond b (At p) Nowhere) ≡ b
+      only : (b : Bool) → found (cond b (Some p) None) ≡ b
       only true = refl
       only false = refl
   found_suc p (suc i) = let z : p + suc i ≡ p + 1 + i = omega arith in rw z (found_if (test p) p i (found_suc (p + 1) i) refl)
@@ -39,7 +40,7 @@ module _ (test : ℕ → Bool) where
   pub found_more : (p i : ℕ) → found (first test p (i + 1)) ≡ (found (first test p i) || test (p + i))
   found_more p i = rw add-one (found_suc p i)
 
-  none_if : (b : Bool) (p n : ℕ) → test p ≡ b → found (cond b (At p) (first test (p + 1) n)) ≡ false
+  none_if : (b : Bool) (p n : ℕ) → test p ≡ b → found (cond b (Some p) (first test (p + 1) n)) ≡ false
       → (found (first test (p + 1) n) ≡ false → (k : ℕ) → p + 1 ≤ k → k < p + 1 + n → test k ≡ false)
       → (k : ℕ) → p ≤ k → k < p + suc n → test k ≡ false
   unfolding found
@@ -53,9 +54,6 @@ module _ (test : ℕ → Bool) where
 
   -- ---- a search that has come from p to q
   module _ {s : List ℕ} {p : ℕ} where
-    pub passed_none_yet : p ≤ length s → Passed test s p p
-    passed_none_yet h = record { on = omega arith; within = h; none = λ k l g. absurd (omega arith) }
-
     module _ {q : ℕ} (w : Passed test s p q) where
       pub passed_block : (n : ℕ) → q + n ≤ length s → found (first test q n) ≡ false → Passed test s p (q + n)
       passed_block n h f = record {
@@ -92,6 +90,26 @@ module _ (test : ℕ → Bool) where
         within = v.within;
         none = λ k l g. by_test (leb q k) (λ t. v.none k (leb-true q k t) g) (λ t. w.none k l (leb-false q k t));
       }
+
+  -- what is first from p on, where the search has come to q
+  pub passed_here : {s : List ℕ} {p q : ℕ} → Passed test s p q → q < length s → test q ≡ true → Some q ≡ first test p (length s - p)
+  passed_here {s} {p} {q} w h t = sym (first_at test p (length s - p) q (record { from = w.on; inside = omega (arith, w.on); passes = t; none = w.none }))
+
+  pub passed_all : {s : List ℕ} {p q : ℕ} → Passed test s p q → p ≤ length s → length s ≤ q → None ≡ first test p (length s - p)
+  passed_all {s} {p} {q} w g h = sym (first_none test p (length s - p) (λ k l m. w.none k l (omega arith)))
+
+  pub next_is : {s : List ℕ} {p q : ℕ} (r : Option ℕ) → Passed test s p q → r ≡ first test q (length s - q) → Next test s p (unwrap_or r (length s))
+  unfolding found
+  next_is {s} {p} {q} (Some i) w e =
+      let f = first_is test q (length s - q) i (sym e) in
+      record {
+        passed = passed_on w (record { on = f.from; within = omega (arith, f.inside, w.within); none = f.none });
+        passes = λ h. f.passes;
+      }
+  next_is {s} {p} {q} None w e = record {
+    passed = passed_on w (record { on = w.within; within = omega arith; none = λ k l h. none_found q (length s - q) (ap found (sym e)) k l (omega arith) });
+    passes = λ h. absurd (omega arith);
+  }
 
   -- the first place from p on is the first from there on
   first_past : (d p n : ℕ) → d ≤ n → ((k : ℕ) → p ≤ k → k < p + d → test k ≡ false) → first test p n ≡ first test (p + d) (n - d)
@@ -144,19 +162,6 @@ unfolding dashed
 dashless b s p h g f =
     opens_not b s p
     (and_false_of (starts_with (dash []) (drop p s)) (may_stand s p) (holds 45 s p) (holds 10 s (p - 1)) (hyphen_first s p g) (lf_before s p h (omega arith)) f)
-
-module _ (s : List ℕ) (p : ℕ) where
-  pub dash_here : get_or s p 0 ≡ 45 → get_or s (p - 1) 0 ≡ 10 → dashed s p ≡ true
-  unfolding dashed holds
-  dash_here h g = rw (eq-eqb (get_or s p 0) 45 h, eq-eqb (get_or s (p - 1) 0) 10 g)
-
-  pub dash_no_hyphen : (get_or s p 0 ≡ 45 → ⊥) → dashed s p ≡ false
-  unfolding dashed holds
-  dash_no_hyphen h = rw (ne_eqb (get_or s p 0) 45 h)
-
-  pub dash_no_lf : (get_or s (p - 1) 0 ≡ 10 → ⊥) → dashed s p ≡ false
-  unfolding dashed holds
-  dash_no_lf h = rw (ne_eqb (get_or s (p - 1) 0) 10 h, and-false)
 
 -- places without a hyphen behind an LF are passed by a search for a delimiter too
 pub dashless_passed : (b s : List ℕ) {p q : ℕ} → 0 < p → Passed (dashed s) s p q → Passed (delimits b s) s p q

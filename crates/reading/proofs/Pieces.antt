@@ -11,8 +11,7 @@ use lib.Seq.{get_or-take, take-take, length-take-le, take-nil, take_at, drop_at}
 use borrow.Author.Tests.{ltb-true, lt-ltb}
 use Rattle.reading.specs.Bytes.{starts_with, first_place, holds}
 use Rattle.reading.specs.Reading.{dash, may_stand, delimits, Need, a_line, bytes, delimiter, nothing, past, reach, got, parted, fetch}
-use Rattle.reading.specs.declared.Place.{Place}
-use Rattle.reading.specs.declared.Place.TheVariants.{At, Nowhere}
+use Rattle.std.specs.Prelude.{Option, Some, None}
 use Rattle.reading.proofs.Places.{at_same, first_moved, first_inside, first_passes}
 use Rattle.reading.proofs.Words.{both_true, starts_take, starts_long}
 
@@ -41,14 +40,14 @@ module _ (s t : List ℕ) (e : ℕ) (alike : take e t ≡ take e s) where
 pub record Reaches (need : Need) (s : List ℕ) (e : ℕ) : Type 0 where
   pub moves : 0 < e
   pub within : e ≤ length s
-  pub alone : (t : List ℕ) → take e t ≡ take e s → reach need t ≡ At e
+  pub alone : (t : List ℕ) → take e t ≡ take e s → reach need t ≡ Some e
 
-pub past_at : (n : ℕ) (p : Place) (e : ℕ) → past n p ≡ At e → (k : ℕ) × (p ≡ At k) × (k + n ≡ e)
+pub past_at : (n : ℕ) (p : Option ℕ) (e : ℕ) → past n p ≡ Some e → (k : ℕ) × (p ≡ Some k) × (k + n ≡ e)
 unfolding past
-past_at n (At k) e h = (k, refl, at_same h)
-past_at n Nowhere e h = absurd (let z : ◌≡◌ {A = ℕ} 0 1 = cc in omega arith)
+past_at n (Some k) e h = (k, refl, at_same h)
+past_at n None e h = absurd (let z : ◌≡◌ {A = ℕ} 0 1 = cc in omega arith)
 
-line_reaches : (s : List ℕ) (p e : ℕ) → first_place (holds 10 s) s ≡ At p → p + 1 ≡ e → Reaches a_line s e
+line_reaches : (s : List ℕ) (p e : ℕ) → first_place (holds 10 s) s ≡ Some p → p + 1 ≡ e → Reaches a_line s e
 unfolding reach past holds
 line_reaches s p e f h = record {
   moves = omega arith;
@@ -56,7 +55,7 @@ line_reaches s p e f h = record {
   alone = λ t a.
       rw (first_moved (holds 10 s) (holds 10 t) s t p f (λ k b. ap (λ (x : ℕ). eqb x 10) (alike_at s t e a k (omega arith)))
       (omega (arith, alike_long s t e a (omega (arith, first_inside (holds 10 s) s p f)))))
-      (ap At h);
+      (ap Some h);
 }
 
 delimits_same : (b s t : List ℕ) (e k : ℕ) → take e t ≡ take e s → k + length (dash b) ≤ e → delimits b t k ≡ delimits b s k
@@ -70,7 +69,7 @@ delimiter_room : (b s : List ℕ) (p : ℕ) → delimits b s p ≡ true → p + 
 unfolding delimits
 delimiter_room b s p h = omega (arith, starts_long (dash b) (drop p s) (both_true (may_stand s p) (starts_with (dash b) (drop p s)) h).1, length-drop p s)
 
-delimiter_reaches : (b s : List ℕ) (p e : ℕ) → first_place (delimits b s) s ≡ At p → p + length (dash b) ≡ e → Reaches (delimiter b) s e
+delimiter_reaches : (b s : List ℕ) (p e : ℕ) → first_place (delimits b s) s ≡ Some p → p + length (dash b) ≡ e → Reaches (delimiter b) s e
 unfolding reach past
 delimiter_reaches b s p e f h =
     let room : e ≤ length s = omega (arith, delimiter_room b s p (first_passes (delimits b s) s p f)) in
@@ -80,18 +79,18 @@ delimiter_reaches b s p e f h =
       alone = λ t a.
           rw (first_moved (delimits b s) (delimits b t) s t p f (λ k g. delimits_same b s t e k a (omega arith))
           (omega (arith, alike_long s t e a room)))
-          (ap At h);
+          (ap Some h);
     }
 
-bytes_reaches : (n : ℕ) (s : List ℕ) (e : ℕ) (c : Bool) → ltb n (length s) ≡ c → cond c (At (n + 1)) Nowhere ≡ At e → Reaches (bytes n) s e
+bytes_reaches : (n : ℕ) (s : List ℕ) (e : ℕ) (c : Bool) → ltb n (length s) ≡ c → cond c (Some (n + 1)) None ≡ Some e → Reaches (bytes n) s e
 unfolding reach
 bytes_reaches n s e true c h =
     let m : n + 1 ≡ e = at_same h in
     let room : n < length s = ltb-true n (length s) c in
-    record { moves = omega arith; within = omega arith; alone = λ t a. rw (lt-ltb n (length t) (omega (arith, alike_long s t e a (omega arith)))) (ap At m) }
+    record { moves = omega arith; within = omega arith; alone = λ t a. rw (lt-ltb n (length t) (omega (arith, alike_long s t e a (omega arith)))) (ap Some m) }
 bytes_reaches n s e false c h = absurd (let z : ◌≡◌ {A = ℕ} 0 1 = cc in omega arith)
 
-pub reaches : (need : Need) (s : List ℕ) (e : ℕ) → reach need s ≡ At e → Reaches need s e
+pub reaches : (need : Need) (s : List ℕ) (e : ℕ) → reach need s ≡ Some e → Reaches need s e
 unfolding reach
 reaches a_line s e h = let p = past_at 1 (first_place (holds 10 s) s) e h in line_reaches s p.0 e p.1 p.2
 reaches (bytes n) s e h = bytes_reaches n s e (ltb n (length s)) refl h
@@ -99,14 +98,14 @@ reaches (delimiter b) s e h = let p = past_at (length (dash b)) (first_place (de
 reaches nothing s e h = absurd (let z : ◌≡◌ {A = ℕ} 0 1 = cc in omega arith)
 
 -- ---- what a read got
-parted_got : (s : List ℕ) (q : Place) (p r : List ℕ) → parted s q ≡ got p r → (e : ℕ) × (q ≡ At e) × (take e s ≡ p) × (drop e s ≡ r)
+parted_got : (s : List ℕ) (q : Option ℕ) (p r : List ℕ) → parted s q ≡ got p r → (e : ℕ) × (q ≡ Some e) × (take e s ≡ p) × (drop e s ≡ r)
 unfolding parted
-parted_got s (At e) p r h = (e, refl, cc, cc)
-parted_got s Nowhere p r h = absurd (let z : ◌≡◌ {A = ℕ} 0 1 = cc in omega arith)
+parted_got s (Some e) p r h = (e, refl, cc, cc)
+parted_got s None p r h = absurd (let z : ◌≡◌ {A = ℕ} 0 1 = cc in omega arith)
 
 module _ (need : Need) (s p r : List ℕ) (g : fetch need s ≡ got p r) where
   -- how far it reached
-  pub got_reach : (e : ℕ) × (reach need s ≡ At e) × (take e s ≡ p) × (drop e s ≡ r)
+  pub got_reach : (e : ℕ) × (reach need s ≡ Some e) × (take e s ≡ p) × (drop e s ≡ r)
   unfolding fetch
   got_reach = parted_got s (reach need s) p r g
 

@@ -1,4 +1,4 @@
--- Words: what one turn of a comparison shows, and what a word that stands somewhere says of the bytes there.
+-- Words: what a word that stands somewhere says of the bytes there.
 -- Assumes nothing.
 use mathlib.Core.Path.{◌≡◌, refl, sym, ap, ◌∙◌}
 use mathlib.Core.Bool.{Bool, true, false, ◌&&◌, and_assoc}
@@ -7,10 +7,10 @@ use Prim.Native.Nat.{ℕ, zero, suc, ◌+◌, ◌-◌, ◌≤◌, ◌<◌}
 use native.Mathlib.Numerals.{add-one}
 use native.Mathlib.Omega.{arith}
 use lib.Dec.{eqb}
-use lib.ListN.{length, take, drop, get_or, drop_of_length-le, length-drop, length-map, get_or-map}
+use lib.ListN.{length, take, drop, get_or, drop_of_length-le, length-drop, length-map}
 use lib.Seq.{drop-cons, take_all}
-use borrow.Author.Tests.{eq-eqb, ne_eqb, eqb-true}
-use Rattle.classes.specs.Classes.{upper_of, is_letter, is_upper}
+use borrow.Author.Tests.{eqb-true}
+use Rattle.classes.specs.Classes.{upper_of}
 use Rattle.reading.specs.Bytes.{starts_with, same, raised}
 
 -- what is left at i is the byte at i and what is left at i + 1
@@ -24,39 +24,6 @@ rest_is s i = take_all (length s - i) (drop i s) (omega (arith, length-drop i s)
 pub both_true : (a b : Bool) → (a && b) ≡ true → (a ≡ true) × (b ≡ true)
 both_true true b e = (refl, e)
 both_true false b e = (cc, cc)
-
--- ---- a comparison that has come to k: what is left to compare decides
-pub record Compared (w l : List ℕ) (k : ℕ) : Type 0 where
-  pub within : k ≤ length w
-  pub is : starts_with (drop k w) (drop k l) ≡ starts_with w l
-
-pub compared_none_yet : (w l : List ℕ) → Compared w l 0
-compared_none_yet w l = record { within = omega arith; is = refl }
-
-module _ {w l : List ℕ} {k : ℕ} (c : Compared w l k) where
-  pub compared_all : length w ≤ k → true ≡ starts_with w l
-  unfolding starts_with
-  compared_all h =
-      let e : starts_with (drop k w) (drop k l) ≡ true = rw (drop_of_length-le w h) in
-      sym e ∙ c.is
-
-  pub compared_short : k < length w → length l ≤ k → false ≡ starts_with w l
-  unfolding starts_with
-  compared_short h g =
-      let e : starts_with (drop k w) (drop k l) ≡ false = rw (left_at w k h, drop_of_length-le l g) in
-      sym e ∙ c.is
-
-  pub compared_differs : k < length w → k < length l → (get_or l k 0 ≡ get_or w k 0 → ⊥) → false ≡ starts_with w l
-  unfolding starts_with
-  compared_differs h g n =
-      let e : starts_with (drop k w) (drop k l) ≡ false = rw (left_at w k h, left_at l k g, ne_eqb (get_or l k 0) (get_or w k 0) n) in
-      sym e ∙ c.is
-
-  pub compared_on : k < length w → k < length l → get_or l k 0 ≡ get_or w k 0 → Compared w l (k + 1)
-  unfolding starts_with
-  compared_on h g q =
-      let e : starts_with (drop k w) (drop k l) ≡ starts_with (drop (k + 1) w) (drop (k + 1) l) = rw (left_at w k h, left_at l k g, eq-eqb (get_or l k 0) (get_or w k 0) q) in
-      record { within = omega arith; is = sym e ∙ c.is }
 
 -- ---- a word is told by as many bytes as it has
 pub starts_take : (w l : List ℕ) (n : ℕ) → length w ≤ n → starts_with w (take n l) ≡ starts_with w l
@@ -101,10 +68,6 @@ pub raised_length : (l : List ℕ) → length (raised l) ≡ length l
 unfolding raised
 raised_length l = length-map l upper_of
 
-raised_at : (l : List ℕ) (k : ℕ) → get_or (raised l) k 0 ≡ upper_of (get_or l k 0)
-unfolding raised upper_of is_letter is_upper
-raised_at l k = get_or-map upper_of l k 0
-
 raised_drop : (l : List ℕ) (k : ℕ) → drop k (raised l) ≡ raised (drop k l)
 unfolding raised
 raised_drop l zero = refl
@@ -116,23 +79,3 @@ raised_long w l e = omega (arith, starts_long (raised w) (raised l) e, raised_le
 
 pub raised_rest : (w l : List ℕ) (p : ℕ) → starts_with w (drop p (raised l)) ≡ starts_with w (raised (take (length l - p) (drop p l)))
 raised_rest w l p = ap (starts_with w) (raised_drop l p ∙ ap raised (sym (rest_is l p)))
-
--- ---- a comparison in any case that has come to k
-pub record Raised (w l : List ℕ) (k : ℕ) : Type 0 where
-  pub is : Compared (raised w) (raised l) k
-
-pub raised_none_yet : (w l : List ℕ) → Raised w l 0
-raised_none_yet w l = record { is = compared_none_yet (raised w) (raised l) }
-
-module _ {w l : List ℕ} {k : ℕ} (c : Raised w l k) where
-  pub raised_all : length w ≤ k → true ≡ starts_with (raised w) (raised l)
-  raised_all h = compared_all c.is (rw raised_length h)
-
-  pub raised_short : k < length w → length l ≤ k → false ≡ starts_with (raised w) (raised l)
-  raised_short h g = compared_short c.is (rw raised_length h) (rw raised_length g)
-
-  pub raised_differs : k < length w → k < length l → (upper_of (get_or l k 0) ≡ upper_of (get_or w k 0) → ⊥) → false ≡ starts_with (raised w) (raised l)
-  raised_differs h g n = compared_differs c.is (rw raised_length h) (rw raised_length g) (λ e. n (sym (raised_at l k) ∙ e ∙ raised_at w k))
-
-  pub raised_on : k < length w → k < length l → upper_of (get_or l k 0) ≡ upper_of (get_or w k 0) → Raised w l (k + 1)
-  raised_on h g e = record { is = compared_on c.is (rw raised_length h) (rw raised_length g) (raised_at l k ∙ e ∙ sym (raised_at w k)) }

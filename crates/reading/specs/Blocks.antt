@@ -1,11 +1,15 @@
 -- What the searches by blocks answer.
 -- Assumes nothing.
-use Rattle.std.specs.Prelude.{◌≡◌, Bool, true, false, ◌&&◌, ◌||◌, List, ℕ, ◌-◌, ◌≤◌, ◌<◌, eqb, leb, length, drop, get_or}
-use Rattle.reading.specs.Bytes.{starts_with, holds}
+use Rattle.std.specs.Prelude.{◌≡◌, Bool, true, false, ◌&&◌, ◌||◌, List, ℕ, ◌-◌, ◌≤◌, ◌<◌, eqb, leb, length, get_or}
+use Rattle.reading.specs.Bytes.{holds}
 
 -- a hyphen stands at p, behind an LF
 unfoldable pub dashed : List ℕ → ℕ → Bool
 dashed s p = holds 45 s p && holds 10 s (p - 1)
+
+-- a function that answers as `post` says computes the test at the places from p up to q
+abbrev pub Computes : (ℕ → Bool → Type 0) → (ℕ → Bool) → ℕ → ℕ → Type 0
+Computes post test p q = (k : ℕ) (r : Bool) → p ≤ k → k < q → post k r → r ≡ test k
 
 -- a search has come from p to q, and no place between them passes the test
 pub record Passed (test : ℕ → Bool) (s : List ℕ) (p q : ℕ) : Type 0 where
@@ -26,9 +30,3 @@ pub record Last (test : ℕ → Bool) (s : List ℕ) (q : ℕ) : Type 0 where
 -- w is empty, or its last byte stands where it would if w stood at the front of l
 unfoldable pub last_stands : List ℕ → List ℕ → Bool
 last_stands w l = eqb (length w) 0 || (leb (length w) (length l) && eqb (get_or l (length w - 1) 0) (get_or w (length w - 1) 0))
-
--- the first k bytes of w stand at the front of l, so that what is behind them decides whether all of w does
-pub record Matched (w l : List ℕ) (k : ℕ) : Type 0 where
-  pub within : k ≤ length w
-  pub room : k ≤ length l
-  pub is : starts_with (drop k w) (drop k l) ≡ starts_with w l

@@ -1,9 +1,8 @@
 -- Comparing and finding bytes. A place of a list is where one of its bytes stands, counted from 0.
 -- Assumes nothing.
-use Rattle.std.specs.Prelude.{Bool, true, false, cond, ◌&&◌, List, [], ◌∷◌, map, ℕ, zero, suc, ◌+◌, ◌-◌, eqb, length, drop, get_or}
+use Rattle.std.specs.Prelude.{Bool, true, false, cond, ◌&&◌, List, [], ◌∷◌, map, ℕ, zero, suc, ◌+◌, ◌-◌, eqb, length, drop, get_or, Option, Some, None}
 use Rattle.classes.specs.Classes.{upper_of}
-use Rattle.reading.specs.declared.Place.{Place}
-use Rattle.reading.specs.declared.Place.TheVariants.{At, Nowhere}
+use Rattle.reading.specs.declared.Span.{Span}
 
 -- l opens with w
 unfoldable pub starts_with : List ℕ → List ℕ → Bool
@@ -24,12 +23,12 @@ unfoldable pub raised : List ℕ → List ℕ
 raised l = map upper_of l
 
 -- the first of the n numbers from p on that passes the test
-unfoldable pub first : (ℕ → Bool) → ℕ → ℕ → Place
-first test p zero = Nowhere
-first test p (suc n) = cond (test p) (At p) (first test (p + 1) n)
+unfoldable pub first : (ℕ → Bool) → ℕ → ℕ → Option ℕ
+first test p zero = None
+first test p (suc n) = cond (test p) (Some p) (first test (p + 1) n)
 
 -- the first place of l that passes the test
-unfoldable pub first_place : (ℕ → Bool) → List ℕ → Place
+unfoldable pub first_place : (ℕ → Bool) → List ℕ → Option ℕ
 first_place test l = first test 0 (length l)
 
 -- the byte b stands at p
@@ -41,9 +40,13 @@ unfoldable pub stands : List ℕ → List ℕ → ℕ → Bool
 stands w l p = starts_with w (drop p l)
 
 -- whether there is a place
-unfoldable pub found : Place → Bool
-found (At p) = true
-found Nowhere = false
+unfoldable pub found : Option ℕ → Bool
+found (Some p) = true
+found None = false
+
+-- n bytes from o on
+abbrev pub span : ℕ → ℕ → Span
+span o n = record { at = o; len = n }
 
 -- w stands somewhere in l
 unfoldable pub contains : List ℕ → List ℕ → Bool

@@ -1,10 +1,8 @@
 -- What is read, and how far a read reaches: document 01, 'Reading'.
 -- Assumes nothing.
-use Rattle.std.specs.Prelude.{Bool, cond, ◌&&◌, ◌||◌, List, ◌++◌, ℕ, ◌+◌, ◌-◌, eqb, ltb, length, take, drop}
+use Rattle.std.specs.Prelude.{Bool, cond, ◌&&◌, ◌||◌, List, ◌++◌, ℕ, ◌+◌, ◌-◌, eqb, ltb, length, take, drop, Option, Some, None}
 use Rattle.reading.specs.Bytes.{starts_with, ends_with, first_place, holds}
 use Rattle.reading.specs.Text.{text}
-use Rattle.reading.specs.declared.Place.{Place}
-use Rattle.reading.specs.declared.Place.TheVariants.{At, Nowhere}
 
 abbrev pub lf : ℕ
 lf = 10
@@ -42,26 +40,26 @@ pub data Need : Type 0 where
 abbrev pub two : Need
 two = bytes 1
 
-unfoldable pub past : ℕ → Place → Place
-past n (At p) = At (p + n)
-past n Nowhere = Nowhere
+unfoldable pub past : ℕ → Option ℕ → Option ℕ
+past n (Some p) = Some (p + n)
+past n None = None
 
 -- the place behind what is read, or that the read needs bytes beyond the end:
 -- a line ends with, and includes, the first LF; a sized read needs all its bytes; reading goes on after the first delimiter's boundary
-unfoldable pub reach : Need → List ℕ → Place
+unfoldable pub reach : Need → List ℕ → Option ℕ
 reach a_line s = past 1 (first_place (holds lf s) s)
-reach (bytes n) s = cond (ltb n (length s)) (At (n + 1)) Nowhere
+reach (bytes n) s = cond (ltb n (length s)) (Some (n + 1)) None
 reach (delimiter b) s = past (length (dash b)) (first_place (delimits b s) s)
-reach nothing s = Nowhere
+reach nothing s = None
 
 -- what a read got, and what is left behind it
 pub data Got : Type 0 where
   got : (piece rest : List ℕ) → Got
   short : Got
 
-unfoldable pub parted : List ℕ → Place → Got
-parted s (At e) = got (take e s) (drop e s)
-parted s Nowhere = short
+unfoldable pub parted : List ℕ → Option ℕ → Got
+parted s (Some e) = got (take e s) (drop e s)
+parted s None = short
 
 unfoldable pub fetch : Need → List ℕ → Got
 fetch need s = parted s (reach need s)

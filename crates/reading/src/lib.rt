@@ -2,8 +2,8 @@
 // A read answers the place behind what it reads, or that it needs bytes beyond the end.
 #![tactic(auto)]
 
-ghost use Rattle.std.specs.Prelude.{◌≡◌, ◌&&◌, [], ◌∷◌, ◌+◌, ◌<◌, ◌≤◌, length, take, drop};
-ghost use Rattle.reading.specs.Blocks.{dashed, Passed, Next, Last, last_stands, Matched};
+ghost use Rattle.std.specs.Prelude.{◌≡◌, ◌&&◌, ◌-◌, ℕ, Bool, [], ◌∷◌, ◌+◌, ◌<◌, ◌≤◌, length, take, drop};
+ghost use Rattle.reading.specs.Blocks.{dashed, Computes, Passed, Next, Last, last_stands};
 ghost use Rattle.reading.specs.Bytes.{starts_with, same, ends_with, raised, first, first_place, found, holds, stands, contains};
 ghost use Rattle.reading.specs.Reading.{clean, drop_end, dash, may_stand, delimits, reach, a_line};
 
@@ -12,60 +12,89 @@ const BLOCK: usize = 16;
 
 const WIDE: usize = 64;
 
+// Bytes of a buffer: where they begin, and how many they are.
 #[derive(Clone, Copy)]
-pub enum Place {
-    At(usize),
-    Nowhere,
+pub struct Span {
+    pub at: usize,
+    pub len: usize,
+}
+
+impl Span {
+    // The bytes that it names.
+    pub fn of(self, s: &[u8]) -> &[u8]
+        requires { self.at + self.len ≤ length s.now }
+        ensures { result.now ≡ take self.len (drop self.at s.now) }
+    {
+        &s[self.at..self.at + self.len]
+    }
 }
 
 // The place behind the first line.
-pub fn line_end(s: &[u8]) -> Place
+pub fn line_end(s: &[u8]) -> Option<usize>
     ensures { result ≡ reach a_line s.now }
 {
-    match find_byte(s, b'\n') {
-        Place::At(p) => Place::At(p + 1),
-        Place::Nowhere => Place::Nowhere,
-    }
+    Some(find_byte(s, b'\n')? + 1)
 }
 
 // The first place that holds a byte.
-pub fn find_byte(s: &[u8], b: u8) -> Place
+pub fn find_byte(s: &[u8], b: u8) -> Option<usize>
     ensures { result ≡ first_place (holds b s.now) s.now }
 {
-    let mut p = skip_blocks(s, b);
-    while p < s.len() {
-        if s[p] == b {
-            return Place::At(p);
-        }
-        p += 1;
-    }
-    Place::Nowhere
+    seek(s, 0, &|p| s[p] == b)
 }
 
-// Past the blocks in which the byte does not stand.
-fn skip_blocks(s: &[u8], b: u8) -> usize
-    ensures { Passed (holds b s.now) s.now 0 result }
+// The first place from `from` on that passes the test.
+fn seek<F: Fn(usize) -> bool>(s: &[u8], from: usize, test: &F) -> Option<usize>
+    requires on { from ≤ length s.now }
+    requires callable { (k : ℕ) → from ≤ k → k < length s.now → F.pre test.now k }
+    ensures { (t : ℕ → Bool) → Computes (F.post test.now) t from (length s.now) → result ≡ first t from (length s.now - from) }
 {
-    let mut p = 0;
-    while BLOCK <= s.len() - p {
-        if block_holds(s, p, b) {
-            return p;
+    for p in skip::<BLOCK, F>(s, from, test)..s.len() {
+        if test(p) {
+            return Some(p);
         }
-        p += BLOCK;
+    }
+    None
+}
+
+// Past blocks of N places of which none passes the test.
+fn skip<const N: usize, F: Fn(usize) -> bool>(s: &[u8], from: usize, test: &F) -> usize
+    requires some { 0 < N }
+    requires on { from ≤ length s.now }
+    requires callable { (k : ℕ) → from ≤ k → k < length s.now → F.pre test.now k }
+    ensures place { (from ≤ result) × (result ≤ length s.now) }
+    ensures none { (t : ℕ → Bool) → Computes (F.post test.now) t from (length s.now) → Passed t s.now from result }
+{
+    let mut p = from;
+    while N <= s.len() - p && !any_of::<N, F>(s, p, test) {
+        p += N;
     }
     p
 }
 
-// Whether one of the bytes of the block at p is b: a loop without a way out, so that the compiler may test them all at once.
-fn block_holds(s: &[u8], p: usize, b: u8) -> bool
-    requires { p + 16 ≤ length s.now }
-    ensures { result ≡ found (first (holds b s.now) p 16) }
+// The same back from the end.
+fn skip_back<const N: usize, F: Fn(usize) -> bool>(s: &[u8], test: &F) -> usize
+    requires some { 0 < N }
+    requires callable { (k : ℕ) → k < length s.now → F.pre test.now k }
+    ensures place { result ≤ length s.now }
+    ensures none { (t : ℕ → Bool) → Computes (F.post test.now) t 0 (length s.now) → Passed t s.now result (length s.now) }
+{
+    let mut p = s.len();
+    while N <= p && !any_of::<N, F>(s, p - N, test) {
+        p -= N;
+    }
+    p
+}
+
+// Whether one of the N places from p on passes the test: a loop without a way out, so that the compiler may test them all at once.
+fn any_of<const N: usize, F: Fn(usize) -> bool>(s: &[u8], p: usize, test: &F) -> bool
+    requires within { p + N ≤ length s.now }
+    requires callable { (k : ℕ) → p ≤ k → k < p + N → F.pre test.now k }
+    ensures { (t : ℕ → Bool) → Computes (F.post test.now) t p (p + N) → result ≡ found (first t p N) }
 {
     let mut seen = false;
-    let mut i = 0;
-    while i < BLOCK {
-        seen = seen | (s[p + i] == b);
-        i += 1;
+    for i in 0..N {
+        seen = seen | test(p + i);
     }
     seen
 }
@@ -74,220 +103,116 @@ fn block_holds(s: &[u8], p: usize, b: u8) -> bool
 pub fn behind_last(s: &[u8], b: u8) -> usize
     ensures { Last (holds b s.now) s.now result }
 {
-    let mut p = skip_blocks_back(s, b);
-    while 0 < p {
-        if s[p - 1] == b {
-            return p;
+    let end = skip_back::<BLOCK, _>(s, &|p| s[p] == b);
+    for p in (0..end).rev() {
+        if s[p] == b {
+            return p + 1;
         }
-        p -= 1;
     }
     0
 }
 
-// From the end back over the blocks in which the byte does not stand.
-fn skip_blocks_back(s: &[u8], b: u8) -> usize
-    ensures { Passed (holds b s.now) s.now result (length s.now) }
-{
-    let mut p = s.len();
-    while BLOCK <= p {
-        if block_holds(s, p - BLOCK, b) {
-            return p;
-        }
-        p -= BLOCK;
-    }
-    p
-}
-
 // The length of a line without its LF and one CR before it.
+#[tactic(auto, unfolding(crate::specs::Reading::clean))]
 pub fn clean_end(l: &[u8]) -> usize
     ensures { result ≡ length (clean l.now) }
 {
-    let n = drop_end(l, l.len(), b'\n');
-    drop_end(l, n, b'\r')
+    drop_end(drop_end(l, b"\n"), b"\r").len()
 }
 
-// The length of the first n bytes without a b at their end.
-fn drop_end(l: &[u8], n: usize, b: u8) -> usize
-    requires { n ≤ length l.now }
-    ensures { result ≡ length (drop_end (b ∷ []) (take n l.now)) }
+// l without one w at its end.
+#[tactic(auto, using(crate::proofs::Library::stripped_is))]
+fn drop_end<'a>(l: &'a [u8], w: &[u8]) -> &'a [u8]
+    ensures { result.now ≡ drop_end w.now l.now }
 {
-    if n == 0 {
-        return 0;
-    }
-    let last = n - 1;
-    if l[last] == b {
-        return last;
-    }
-    n
+    l.strip_suffix(w).unwrap_or(l)
 }
 
 // Whether l opens with the word w.
+// `==` tells most other lines by their first bytes, without a call.
+#[tactic(auto, using(crate::proofs::Library::prefix_is, crate::proofs::Library::short_not))]
 pub fn starts_with(l: &[u8], w: &[u8]) -> bool
     ensures { result ≡ starts_with w.now l.now }
 {
-    let mut k = 0;
-    while k < w.len() {
-        if l.len() <= k {
-            return false;
-        }
-        if l[k] != w[k] {
-            return false;
-        }
-        k += 1;
-    }
-    true
+    w.len() <= l.len() && &l[..w.len()] == w
 }
 
 // Whether l opens with the word w in any case.
+#[tactic(auto, using(crate::proofs::Library::opens_alike, crate::proofs::Library::short_alike))]
 pub fn starts_with_any_case(l: &[u8], w: &[u8]) -> bool
     ensures { result ≡ starts_with (raised w.now) (raised l.now) }
 {
-    let mut k = 0;
-    while k < w.len() {
-        if l.len() <= k {
-            return false;
-        }
-        if classes::upper(l[k]) != classes::upper(w[k]) {
-            return false;
-        }
-        k += 1;
-    }
-    true
+    w.len() <= l.len() && equals_any_case(&l[..w.len()], w)
 }
 
 // Whether l is the word w.
+#[tactic(auto, using(crate::proofs::Library::equals_is))]
 pub fn equals(l: &[u8], w: &[u8]) -> bool
     ensures { result ≡ same w.now l.now }
 {
-    if l.len() != w.len() {
-        return false;
-    }
-    starts_with(l, w)
+    l == w
 }
 
 // Whether l is the word w in any case.
 pub fn equals_any_case(l: &[u8], w: &[u8]) -> bool
     ensures { result ≡ same (raised w.now) (raised l.now) }
 {
-    if l.len() != w.len() {
-        return false;
-    }
-    starts_with_any_case(l, w)
+    l.eq_ignore_ascii_case(w)
 }
 
 // Whether l ends with the word w.
+#[tactic(auto, using(crate::proofs::Library::closes_is))]
 pub fn ends_with(l: &[u8], w: &[u8]) -> bool
     ensures { result ≡ ends_with w.now l.now }
 {
-    if l.len() < w.len() {
-        return false;
-    }
-    let from = l.len() - w.len();
-    equals(&l[from..], w)
+    l.ends_with(w)
 }
 
 // The first place where the word w stands.
-pub fn find(l: &[u8], w: &[u8]) -> Place
+pub fn find(l: &[u8], w: &[u8]) -> Option<usize>
     ensures { result ≡ first_place (stands w.now l.now) l.now }
 {
-    let mut p = 0;
-    while p < l.len() {
-        if starts_with(&l[p..], w) {
-            return Place::At(p);
-        }
-        p += 1;
-    }
-    Place::Nowhere
+    (0..l.len()).find(|p| starts_with(&l[*p..], w))
 }
 
 // Whether the word w stands somewhere in l, in any case.
 pub fn contains_any_case(l: &[u8], w: &[u8]) -> bool
     ensures { result ≡ contains (raised w.now) (raised l.now) }
 {
-    let mut p = 0;
-    while p < l.len() {
-        if starts_with_any_case(&l[p..], w) {
-            return true;
-        }
-        p += 1;
-    }
-    false
+    (0..l.len()).any(|p| starts_with_any_case(&l[p..], w))
 }
 
 // The first place of a region where a delimiter for the boundary b stands.
-pub fn delimiter(s: &[u8], b: &[u8]) -> Place
+pub fn delimiter(s: &[u8], b: &[u8]) -> Option<usize>
     ensures { result ≡ first_place (delimits b.now s.now) s.now }
 {
     let mut p = 0;
-    'places: loop {
-        if s.len() <= p {
-            break 'places Place::Nowhere;
-        }
-        if opens(s, p) {
-            if last_stands(s, p + 2, b) {
-                let mut k = matched(s, p + 2, b);
-                loop {
-                    if b.len() <= k {
-                        break 'places Place::At(p);
-                    }
-                    if s.len() - p - 2 <= k {
-                        break;
-                    }
-                    if s[p + 2 + k] != b[k] {
-                        break;
-                    }
-                    k += 1;
-                }
-            }
+    while p < s.len() {
+        if opens(s, p) && stands(s, p + 2, b) {
+            return Some(p);
         }
         p = next_dash(s, p + 1);
     }
+    None
+}
+
+// Whether b stands at a place.
+#[tactic(auto, using(crate::proofs::Words::rest_is, crate::proofs::Matching::starts_not), unfolding(crate::specs::Bytes::stands))]
+fn stands(s: &[u8], at: usize, b: &[u8]) -> bool
+    requires { at ≤ length s.now }
+    ensures { result ≡ stands b.now s.now at }
+{
+    last_stands(s, at, b) && starts_with(&s[at..], b)
 }
 
 // Whether the last byte of b stands where it would if b stood at a place: one look tells most that only resemble it.
+#[tactic(auto, unfolding(crate::specs::Blocks::last_stands))]
 fn last_stands(s: &[u8], at: usize, b: &[u8]) -> bool
     requires { at ≤ length s.now }
     ensures { result ≡ last_stands b.now (drop at s.now) }
 {
     let n = b.len();
-    if n == 0 {
-        return true;
-    }
-    if s.len() - at < n {
-        return false;
-    }
-    s[at + (n - 1)] == b[n - 1]
-}
-
-// How many bytes of b stand at a place, by whole blocks.
-fn matched(s: &[u8], at: usize, b: &[u8]) -> usize
-    requires { at ≤ length s.now }
-    ensures { Matched b.now (drop at s.now) result }
-{
-    let mut k = 0;
-    while BLOCK <= b.len() - k {
-        if s.len() - at - k < BLOCK {
-            return k;
-        }
-        if !block_equals(s, at + k, b, k) {
-            return k;
-        }
-        k += BLOCK;
-    }
-    k
-}
-
-fn block_equals(s: &[u8], p: usize, b: &[u8], k: usize) -> bool
-    requires { (p + 16 ≤ length s.now) × (k + 16 ≤ length b.now) }
-    ensures { result ≡ starts_with (take 16 (drop k b.now)) (drop p s.now) }
-{
-    let mut same = true;
-    let mut i = 0;
-    while i < BLOCK {
-        same = same & (s[p + i] == b[k + i]);
-        i += 1;
-    }
-    same
+    n == 0 || (n <= s.len() - at && s[at + n - 1] == b[n - 1])
 }
 
 // From p on, the first place that holds a hyphen behind an LF, or the end.
@@ -295,67 +220,15 @@ fn next_dash(s: &[u8], from: usize) -> usize
     requires { (0 < from) × (from ≤ length s.now) }
     ensures { Next (dashed s.now) s.now from result }
 {
-    let mut p = skip_dashless(s, skip_dashless(s, from, WIDE), BLOCK);
-    while p < s.len() {
-        if s[p] == b'-' {
-            if s[p - 1] == b'\n' {
-                return p;
-            }
-        }
-        p += 1;
-    }
-    p
-}
-
-// Past blocks of n places in which no hyphen stands behind an LF.
-fn skip_dashless(s: &[u8], from: usize, n: usize) -> usize
-    requires { (0 < from) × (from ≤ length s.now) × (0 < n) }
-    ensures { Passed (dashed s.now) s.now from result }
-{
-    let mut p = from;
-    while n <= s.len() - p {
-        if block_dashed(s, p, n) {
-            return p;
-        }
-        p += n;
-    }
-    p
-}
-
-fn block_dashed(s: &[u8], p: usize, n: usize) -> bool
-    requires { (0 < p) × (p + n ≤ length s.now) }
-    ensures { result ≡ found (first (dashed s.now) p n) }
-{
-    let mut seen = false;
-    let mut i = 0;
-    while i < n {
-        seen = seen | ((s[p + i] == b'-') & (s[p + i - 1] == b'\n'));
-        i += 1;
-    }
-    seen
+    let dashed = |p| (s[p] == b'-') & (s[p - 1] == b'\n');
+    seek(s, skip::<WIDE, _>(s, from, &dashed), &dashed).unwrap_or(s.len())
 }
 
 // Whether p is a place for a delimiter and holds two hyphens.
-#[tactic(auto, using(crate::proofs::Ends::hyphens_not_first, crate::proofs::Ends::hyphens_short, crate::proofs::Ends::hyphens_not_second, crate::proofs::Ends::hyphens_both, crate::proofs::Ends::may_stand_first, crate::proofs::Ends::may_stand_second, crate::proofs::Ends::may_stand_later, crate::proofs::Ends::ends_crlf))]
+#[tactic(auto, using(crate::proofs::Words::rest_is), unfolding(crate::specs::Reading::may_stand))]
 fn opens(s: &[u8], p: usize) -> bool
     requires { p < length s.now }
     ensures { result ≡ (starts_with (dash []) (drop p s.now) && may_stand s.now p) }
 {
-    if s[p] != b'-' {
-        return false;
-    }
-    let q = p + 1;
-    if s.len() <= q {
-        return false;
-    }
-    if s[q] != b'-' {
-        return false;
-    }
-    if p == 0 {
-        return true;
-    }
-    if p == 1 {
-        return false;
-    }
-    (s[p - 2] == b'\r') & (s[p - 1] == b'\n')
+    starts_with(&s[p..], b"--") && (p == 0 || ends_with(&s[..p], b"\r\n"))
 }

@@ -17,7 +17,7 @@ use Rattle.reading.proofs.Places.{at_same}
 use Rattle.reading.proofs.Words.{same_is}
 use Rattle.reading.specs.Bytes.{same}
 use Rattle.reading.specs.Reading.{Need, a_line, bytes, two, crlf, clean, reach, parted, fetch}
-use Rattle.reading.specs.declared.Place.TheVariants.{At, Nowhere}
+use Rattle.std.specs.Prelude.{Some, None}
 use Rattle.rules.specs.Mail.{hyphens, last_line}
 use Rattle.rules.specs.declared.Mail.{Mail}
 use Rattle.rules.specs.declared.Mail.TheVariants.{Smtp, Pop3, Imap}
@@ -26,7 +26,7 @@ use Rattle.reads.specs.Clauses.{Ends, Stops, Cleaned, Pair, NoPair, Begins}
 pub part_length : (s : List ℕ) (i j : ℕ) → j ≤ length s → length (part s i j) ≡ j - i
 part_length s i j h = omega (arith, length-take (j - i) (drop i s), length-drop i s)
 
-pub ends_at : (nd : Need) (s : List ℕ) (i e : ℕ) → i ≤ length s → reach nd (drop i s) ≡ At e → Ends nd s i (i + e)
+pub ends_at : (nd : Need) (s : List ℕ) (i e : ℕ) → i ≤ length s → reach nd (drop i s) ≡ Some e → Ends nd s i (i + e)
 unfolding fetch parted
 ends_at nd s i e h r =
     let q = reaches nd (drop i s) e r in
@@ -34,7 +34,7 @@ ends_at nd s i e h r =
     let w : i + e ≤ length s = omega (arith, q.within, length-drop i s) in
     record { on = omega (arith, q.moves); within = w; long = part_length s i (i + e) w; is = rw (r, n, drop-drop e i s) }
 
-pub stops_at : (nd : Need) (s : List ℕ) (i : ℕ) → reach nd (drop i s) ≡ Nowhere → Stops nd s i Incomplete
+pub stops_at : (nd : Need) (s : List ℕ) (i : ℕ) → reach nd (drop i s) ≡ None → Stops nd s i Incomplete
 stops_at nd s i r = record { short = r; is = refl }
 
 -- ---- sized reads
@@ -51,7 +51,7 @@ sized_stops s i n g l =
     let w : ltb (n - 1) (length (drop i s)) ≡ false = le-ltb (n - 1) (length (drop i s)) (omega (arith, length-drop i s)) in
     stops_at (bytes (n - 1)) s i (rw w)
 
-bytes_reach_if : (b : Bool) (n e : ℕ) → cond b (At (n + 1)) Nowhere ≡ At e → e ≡ n + 1
+bytes_reach_if : (b : Bool) (n e : ℕ) → cond b (Some (n + 1)) None ≡ Some e → e ≡ n + 1
 bytes_reach_if true n e h = sym (at_same h)
 bytes_reach_if false n e h = absurd (let z : ◌≡◌ {A = ℕ} 0 1 = cc in omega arith)
 

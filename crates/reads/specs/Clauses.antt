@@ -1,6 +1,6 @@
 -- What reads and events answer, whoever asks.
 -- Assumes nothing.
-use Rattle.std.specs.Prelude.{◌≡◌, false, List, ℕ, ◌+◌, ◌-◌, ◌≤◌, ◌<◌, length, drop}
+use Rattle.std.specs.Prelude.{◌≡◌, false, List, ℕ, ◌+◌, ◌-◌, ◌≤◌, ◌<◌, length, drop, None, Result, Ok, Err}
 use Rattle.events.specs.Table.{Final, final, all, full, pour}
 use Rattle.events.specs.declared.Event.{Event}
 use Rattle.events.specs.declared.Log.{Log}
@@ -9,16 +9,10 @@ use Rattle.events.specs.declared.Outcome.TheVariants.{Incomplete, TableFull}
 use Rattle.fields.specs.Common.{part}
 use Rattle.reading.specs.Bytes.{same}
 use Rattle.reading.specs.Reading.{Need, a_line, two, crlf, clean, reach, got, fetch}
-use Rattle.reading.specs.declared.Place.TheVariants.{Nowhere}
 use Rattle.rules.specs.Mail.{hyphens}
 use Rattle.rules.specs.declared.Mail.{Mail}
 use Rattle.rules.specs.declared.Mail.TheVariants.{Imap}
-use Rattle.reads.specs.declared.Clean.{Clean}
-use Rattle.reads.specs.declared.Clean.TheVariants as clean_line
-use Rattle.reads.specs.declared.Noted.{Noted}
-use Rattle.reads.specs.declared.Noted.TheVariants as noted
-use Rattle.reads.specs.declared.Read.{Read}
-use Rattle.reads.specs.declared.Read.TheVariants as read
+use Rattle.reads.specs.declared.CleanLine.{CleanLine}
 use Rattle.reads.specs.declared.Stop.{Stop}
 use Rattle.reads.specs.declared.Two.{Two}
 use Rattle.reads.specs.declared.Two.TheVariants as pair
@@ -34,12 +28,12 @@ pub record Ends (nd : Need) (s : List ℕ) (i j : ℕ) : Type 0 where
 
 -- a read at i needs bytes beyond the end
 pub record Stops (nd : Need) (s : List ℕ) (i : ℕ) (o : Outcome) : Type 0 where
-  pub short : reach nd (drop i s) ≡ Nowhere
+  pub short : reach nd (drop i s) ≡ None
   pub is : o ≡ Incomplete
 
-abbrev pub ReadIs : Need → List ℕ → ℕ → Read → Type 0
-ReadIs nd s i (read.To j) = Ends nd s i j
-ReadIs nd s i (read.Stop o) = Stops nd s i o
+abbrev pub ReadIs : Need → List ℕ → ℕ → Result ℕ Outcome → Type 0
+ReadIs nd s i (Ok j) = Ends nd s i j
+ReadIs nd s i (Err o) = Stops nd s i o
 
 -- a line from i up to j, whose clean part ends at `end`
 pub record Cleaned (s : List ℕ) (i end j : ℕ) : Type 0 where
@@ -48,9 +42,9 @@ pub record Cleaned (s : List ℕ) (i end j : ℕ) : Type 0 where
   pub within : end ≤ j
   pub is : part s i end ≡ clean (part s i j)
 
-abbrev pub CleanIs : List ℕ → ℕ → Clean → Type 0
-CleanIs s i (clean_line.To end j) = Cleaned s i end j
-CleanIs s i (clean_line.Stop o) = Stops a_line s i o
+abbrev pub CleanIs : List ℕ → ℕ → Result CleanLine Outcome → Type 0
+CleanIs s i (Ok l) = Cleaned s i l.clean l.end
+CleanIs s i (Err o) = Stops a_line s i o
 
 pub record Pair (s : List ℕ) (i : ℕ) (l : List ℕ) : Type 0 where
   pub ends : Ends two s i (i + 2)
@@ -61,11 +55,11 @@ pub record NoPair (s : List ℕ) (i : ℕ) : Type 0 where
   pub no_crlf : same crlf (part s i (i + 2)) ≡ false
   pub no_hyphens : same hyphens (part s i (i + 2)) ≡ false
 
-abbrev pub TwoIs : List ℕ → ℕ → Two → Type 0
-TwoIs s i pair.Crlf = Pair s i crlf
-TwoIs s i pair.Hyphens = Pair s i hyphens
-TwoIs s i pair.Other = NoPair s i
-TwoIs s i (pair.Stop o) = Stops two s i o
+abbrev pub TwoIs : List ℕ → ℕ → Result Two Outcome → Type 0
+TwoIs s i (Ok pair.Crlf) = Pair s i crlf
+TwoIs s i (Ok pair.Hyphens) = Pair s i hyphens
+TwoIs s i (Ok pair.Other) = NoPair s i
+TwoIs s i (Err o) = Stops two s i o
 
 -- ---- events
 
@@ -87,9 +81,9 @@ pub record Full (t : List ℕ) (log : Log) (es : List Event) (a : Stop) (u : Lis
 pub record Written (t : List ℕ) (log : Log) (es : List Event) (next : Log) (u : List ℕ) : Type 0 where
   pub is : pour es t log ≡ all u next
 
-abbrev pub Notes : List ℕ → Log → List Event → Noted → List ℕ → Type 0
-Notes t log es (noted.Written next) u = Written t log es next u
-Notes t log es (noted.Stopped a) u = Full t log es a u
+abbrev pub Notes : List ℕ → Log → List Event → Result Log Stop → List ℕ → Type 0
+Notes t log es (Ok next) u = Written t log es next u
+Notes t log es (Err a) u = Full t log es a u
 
 -- ---- mails
 

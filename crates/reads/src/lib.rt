@@ -2,37 +2,28 @@
 #![tactic(auto)]
 
 ghost use Rattle.std.specs.Prelude.{◌≡◌, ◌+◌, ◌-◌, ◌≤◌, ◌<◌, [], ◌∷◌, length};
-ghost use Rattle.events.specs.Events.{ev};
+ghost use Rattle.events.specs.Events.{ev, kind_number};
 ghost use Rattle.reading.specs.Reading.{a_line, bytes};
 ghost use Rattle.rules.specs.Mail.{whole, rest, last_line};
 ghost use Rattle.rules.specs.Sessions.{limit};
 ghost use Rattle.reads.specs.Clauses.{Stopped, ReadIs, CleanIs, TwoIs, Notes, Begins};
 
-use events::{BODY_STOP, Encoding, Event, Listed, Log, Outcome};
-use reading::Place;
+use events::{Encoding, Event, Kind, Log, Outcome};
 use rules::Mail;
 
-// A read: the place behind it, or how the session stops where the read began.
-#[derive(Clone, Copy)]
-pub enum Read {
-    To(usize),
-    Stop(Outcome),
-}
-
 // The two bytes behind a delimiter or a literal.
-#[derive(Clone, Copy)]
+#[derive(Clone, Copy, PartialEq, Eq)]
 pub enum Two {
     Crlf,
     Hyphens,
     Other,
-    Stop(Outcome),
 }
 
-// A line and its clean part: where that ends, and where the line does.
+// A line: where its clean part ends, and where it does.
 #[derive(Clone, Copy)]
-pub enum Clean {
-    To(usize, usize),
-    Stop(Outcome),
+pub struct CleanLine {
+    pub clean: usize,
+    pub end: usize,
 }
 
 // Where a session stops, and what its writer knows then.
@@ -43,62 +34,54 @@ pub struct Stop {
     pub log: Log,
 }
 
-#[derive(Clone, Copy)]
-pub enum Noted {
-    Written(Log),
-    Stopped(Stop),
-}
+// ---- reads: the place behind, or how the session stops where the read began
 
-// ---- reads
-
-pub fn line(s: &[u8], at: usize) -> Read
+#[tactic(auto, using(crate::proofs::Laws::stops_at))]
+pub fn line(s: &[u8], at: usize) -> Result<usize, Outcome>
     requires { at ≤ length s.now }
     ensures { ReadIs a_line s.now at result }
 {
-    match reading::line_end(&s[at..]) {
-        Place::At(n) => Read::To(at + n),
-        Place::Nowhere => Read::Stop(Outcome::Incomplete),
-    }
+    let Some(n) = reading::line_end(&s[at..]) else {
+        return Err(Outcome::Incomplete);
+    };
+    Ok(at + n)
 }
 
-pub fn clean_line(s: &[u8], at: usize) -> Clean
+pub fn clean_line(s: &[u8], at: usize) -> Result<CleanLine, Outcome>
     requires { at ≤ length s.now }
     ensures { CleanIs s.now at result }
 {
-    match line(s, at) {
-        Read::Stop(o) => Clean::Stop(o),
-        Read::To(e) => Clean::To(at + reading::clean_end(&s[at..e]), e),
-    }
+    let end = line(s, at)?;
+    let clean = at + reading::clean_end(&s[at..end]);
+    Ok(CleanLine { clean, end })
 }
 
 // So many bytes, one at least.
-pub fn sized(s: &[u8], at: usize, n: u64) -> Read
+#[tactic(auto, using(crate::proofs::Laws::sized_stops))]
+pub fn sized(s: &[u8], at: usize, n: u64) -> Result<usize, Outcome>
     requires { (at ≤ length s.now) × (0 < n) }
     ensures { ReadIs (bytes (n - 1)) s.now at result }
 {
     let left = s.len() - at;
     if n <= left as u64 {
-        return Read::To(at + n as usize);
+        return Ok(at + n as usize);
     }
-    Read::Stop(Outcome::Incomplete)
+    Err(Outcome::Incomplete)
 }
 
-pub fn two_bytes(s: &[u8], at: usize) -> Two
+#[tactic(auto, using(crate::proofs::Laws::pair_is, crate::proofs::Laws::pair_not))]
+pub fn two_bytes(s: &[u8], at: usize) -> Result<Two, Outcome>
     requires { at ≤ length s.now }
     ensures { TwoIs s.now at result }
 {
-    match sized(s, at, 2) {
-        Read::Stop(o) => Two::Stop(o),
-        Read::To(e) => {
-            if reading::equals(&s[at..e], b"\r\n") {
-                return Two::Crlf;
-            }
-            if reading::equals(&s[at..e], b"--") {
-                return Two::Hyphens;
-            }
-            Two::Other
-        }
+    let end = sized(s, at, 2)?;
+    if reading::equals(&s[at..end], b"\r\n") {
+        return Ok(Two::Crlf);
     }
+    if reading::equals(&s[at..end], b"--") {
+        return Ok(Two::Hyphens);
+    }
+    Ok(Two::Other)
 }
 
 // ---- events
@@ -117,18 +100,16 @@ pub fn stopped(res: Outcome, place: usize, log: Log) -> Stop
 pub fn note(
     table: &mut [u32],
     log: Log,
-    kind: u32,
+    kind: Kind,
     offset: usize,
     length: usize,
     encoding: Encoding,
-) -> Noted
+) -> Result<Log, Stop>
     requires { (offset ≤ limit) × (length ≤ limit) }
-    ensures { Notes table.old log (ev kind offset length encoding ∷ []) result table.new }
+    ensures { Notes table.old log (ev (kind_number kind) offset length encoding ∷ []) result table.new }
 {
-    match events::put(table, log, Event::new(kind, offset, length, encoding)) {
-        Listed::Written(next) => Noted::Written(next),
-        Listed::Full => Noted::Stopped(stopped(Outcome::TableFull, offset, log)),
-    }
+    let event = Event::new(kind, offset, length, encoding);
+    events::put(table, log, event).ok_or(stopped(Outcome::TableFull, offset, log))
 }
 
 // A body of n bytes from `at` on, and its stop; an empty one is not listed.
@@ -136,54 +117,40 @@ pub fn note(
 pub fn hold(
     table: &mut [u32],
     log: Log,
-    kind: u32,
+    kind: Kind,
     at: usize,
     n: usize,
     encoding: Encoding,
-) -> Noted
+) -> Result<Log, Stop>
     requires { at + n ≤ limit }
-    ensures { Notes table.old log (whole kind encoding at n) result table.new }
+    ensures { Notes table.old log (whole (kind_number kind) encoding at n) result table.new }
 {
     if n == 0 {
-        return note(table, log, BODY_STOP, at, 0, Encoding::Unsaid);
+        return note(table, log, Kind::BodyStop, at, 0, Encoding::Unsaid);
     }
-    match note(table, log, kind, at, n, encoding) {
-        Noted::Stopped(a) => Noted::Stopped(a),
-        Noted::Written(next) => note(table, next, BODY_STOP, at + n, 0, Encoding::Unsaid),
-    }
+    let log = note(table, log, kind, at, n, encoding)?;
+    note(table, log, Kind::BodyStop, at + n, 0, Encoding::Unsaid)
 }
 
 // ---- mails
 
-// n less m, and 0 where m is more.
-pub fn less(n: usize, m: usize) -> usize
-    ensures { result ≡ n - m }
-{
-    if n < m {
-        return 0;
-    }
-    n - m
-}
-
 // What is left of the literal at a place: 0 once passed, and where there is none.
+#[tactic(auto, unfolding(rules::specs::Mail::rest))]
 pub fn literal_rest(mail: Mail, at: usize) -> u64
     requires { Begins mail at }
     ensures { result ≡ rest mail at }
 {
     match mail {
-        Mail::Smtp => 0,
-        Mail::Pop3 => 0,
+        Mail::Smtp | Mail::Pop3 => 0,
         Mail::Imap(size, start) => {
             let read = (at - start) as u64;
-            if size < read {
-                return 0;
-            }
-            size - read
+            size.saturating_sub(read)
         }
     }
 }
 
 // The line l ends the skipping behind a close, b being the outermost boundary.
+#[tactic(auto, using(crate::proofs::Laws::last_dash), unfolding(rules::specs::Mail::last_line))]
 pub fn last_line(l: &[u8], b: &[u8], mail: Mail) -> bool
     ensures { result ≡ last_line mail b.now l.now }
 {
@@ -191,8 +158,7 @@ pub fn last_line(l: &[u8], b: &[u8], mail: Mail) -> bool
         return true;
     }
     match mail {
-        Mail::Smtp => reading::equals(l, b".\r\n"),
-        Mail::Pop3 => reading::equals(l, b".\r\n"),
+        Mail::Smtp | Mail::Pop3 => reading::equals(l, b".\r\n"),
         Mail::Imap(_, _) => false,
     }
 }

@@ -1,41 +1,31 @@
 -- What was read, put together.
 -- Assumes nothing.
-use Rattle.std.proofs.Common.{◌≡◌, ℕ, ◌+◌, ◌*◌, ◌%◌, ◌≤◌, Bool, eqb, List, length, take, replicate, ◌∙◌}
-use Rattle.cases.specs.Cases.{four, head_of, guess_of, pattern}
-use Rattle.cases.specs.declared.Guessed.{Guessed}
-use Rattle.cases.specs.declared.Guessed.TheVariants.{Number}
+use Rattle.std.proofs.Common.{◌≡◌, ℕ, ◌*◌, ◌≤◌, Bool, List, length, take, replicate}
+use Rattle.std.specs.Prelude.{Option, Some, None, IfSome, Result, Ok, Err}
+use Rattle.cases.specs.Cases.{NextHead, four, lent_size, pattern}
+use Rattle.cases.specs.declared.Ending.{Ending}
+use Rattle.cases.specs.declared.Ending.TheVariants.{Broken}
 use Rattle.cases.specs.declared.Head.{Head}
+use Rattle.events.specs.Table.{Final}
 use Rattle.rules.specs.Sessions.{answer_of}
 use Rattle.rules.specs.declared.Entry.{Entry}
-use Rattle.events.specs.Table.{Final}
-use Rattle.replay.specs.Replay.{agree, judge, guess_judged, OrBroken, broken, good, OfDirection, OfSession, OfRecord, group_of, next_of, OfFile, behind}
-use Rattle.replay.specs.declared.Next.{Next}
-use Rattle.replay.specs.declared.Next.TheVariants as next
+use Rattle.replay.specs.Replay.{agree, OfSession, OfRecord, group_of, next_of, OfFile, behind}
+use Rattle.replay.specs.declared.Case.{Case}
 use Rattle.replay.specs.declared.Replayed.{Replayed}
-use Rattle.replay.specs.declared.Replayed.TheVariants.{Case, Broken}
 
-pub mapped : {P Q : Replayed → Type 0} {r : Replayed} → ((r : Replayed) → P r → Q r) → OrBroken P r → OrBroken Q r
-mapped f broken = broken
-mapped f (good {r} p) = good (f r p)
+pub session_judged : {f : Final} {same : Bool} {n m result : ℕ} (e : Entry) (slots : ℕ) (s events b t : List ℕ) → length b ≡ 12 → n ≡ four b 8 → 16 * n ≤ length events
+    → m ≡ lent_size slots (length s) → f ≡ answer_of e (replicate m pattern) s → take (16 * n) events ≡ t → same ≡ agree f b t → result ≡ four b 0
+    → OfSession e slots s events (record { result = result; same = same })
+session_judged e slots s events b t l k room z a y w x = record { stored = b; long = l; room = rw k at room; is = rw (x, w, a, z, ← y, k) }
 
-pub direction_judged : {r : Replayed} {g : Guessed} {n k : ℕ} (s b : List ℕ) → length b ≡ 4 → k ≡ four b 0 → g ≡ guess_of s → g ≡ Number n
-    → r ≡ judge (eqb n k) k → OrBroken (OfDirection s) r
-unfolding guess_judged
-direction_judged s b l e f h w = good (record { stored = b; long = l; is = w ∙ rw (← e, ← f, h) })
+module _ {bytes events : List ℕ} (r : Option Replayed) {h : Head} (n : NextHead (Ok h)) (w : IfSome r (OfRecord h bytes events)) where
+  behind_head : {x : Result Case Ending} → x ≡ next_of h.letter r → OfFile bytes events x
+  behind_head y = rw y (behind r n w)
 
-pub session_judged : {r : Replayed} {f : Final} {same : Bool} {n result : ℕ} (e : Entry) (slots : ℕ) (s events b : List ℕ) → length b ≡ 12 → n ≡ four b 8
-    → 16 * n ≤ length events → f ≡ answer_of e (replicate (4 * slots + length s % 4) pattern) s → same ≡ agree f b (take (16 * n) events)
-    → result ≡ four b 0 → r ≡ judge same result → OrBroken (OfSession e slots s events) r
-session_judged e slots s events b l k room a w x y = good (record { stored = b; long = l; room = rw k at room; is = y ∙ rw (w, x, a, k) })
-
-module _ {bytes events : List ℕ} {r : Replayed} {h : Head} (head : List ℕ) (l : length head ≡ 9) (e : h ≡ head_of head) (w : OrBroken (OfRecord h bytes events) r) where
-  behind_head : {x : Next} → x ≡ next_of h.letter r → OfFile bytes events x
-  behind_head y = rw (y, e) (behind head l (rw e at w))
-
-  pub case_behind : {k d : ℕ} {x : Next} → r ≡ Case k d → x ≡ group_of h.letter k d → OfFile bytes events x
+  pub case_behind : {q : Replayed} {x : Result Case Ending} → r ≡ Some q → x ≡ group_of h.letter q → OfFile bytes events x
   unfolding next_of
-  case_behind a y = behind_head (y ∙ rw a)
+  case_behind a y = behind_head (rw a y)
 
-  pub broken_behind : r ≡ Broken → OfFile bytes events next.Broken
+  pub broken_behind : r ≡ None → OfFile bytes events (Err Broken)
   unfolding next_of
   broken_behind a = behind_head (rw a)

@@ -3,19 +3,16 @@
 // how many differ; `broken` before that where a record cannot be read.
 #![tactic(auto)]
 
-ghost use Rattle.std.specs.Prelude.{◌≡◌, ◌*◌, ◌≤◌, length};
+ghost use Rattle.std.specs.Prelude.{◌≡◌, ◌*◌, ◌≤◌, length, IfSome};
 ghost use Rattle.events.specs.Table.{final_of};
-ghost use Rattle.replay.specs.Replay.{agree, judge, OrBroken, OfDirection, OfSession, OfRecord, OfFile, index_of, letter_of, group_of, counted_in};
+ghost use Rattle.replay.specs.Replay.{agree, OfDirection, OfSession, OfRecord, OfFile, index_of, letter_of, group_of, counted_in};
 
-use cases::{Guessed, Head};
+use cases::{Ending, Head};
 use events::Answer;
-use input::Input;
-use letters::Letter;
 use rules::Entry;
 use std::fs::File;
 use std::io;
 use std::io::{Stdout, Write};
-use std::num::wrapping_add_u64;
 
 // A session's bytes, its stored events, and the numbers of its table with some over.
 const BYTES: usize = 4_096;
@@ -34,19 +31,18 @@ const ANSWER: usize = 12;
 
 const EVENT: usize = 16;
 
-// The stored result, and how many answers differ from the stored one: none or one.
+// The stored result, and whether the answer is the stored one.
 #[derive(Clone, Copy)]
-enum Replayed {
-    Case(u32, u64),
-    Broken,
+struct Replayed {
+    result: u32,
+    same: bool,
 }
 
-// A case's group, and how many answers differ; or how the file ended.
+// The same with the case's group.
 #[derive(Clone, Copy)]
-enum Next {
-    Case(usize, u64),
-    End,
-    Broken,
+struct Case {
+    group: usize,
+    same: bool,
 }
 
 #[derive(Clone, Copy)]
@@ -67,7 +63,7 @@ fn main(rt: HostRuntime) -> io::Result<()> {
     print_counts(&rt, counts)
 }
 
-// Every case of the file, counted in its group. The loop counts its turns down, from a number that no run uses up.
+// Every case of the file, counted in its group. The loop has so many turns that no run uses them up.
 fn replay(
     file: &mut File,
     bytes: &mut [u8],
@@ -75,75 +71,64 @@ fn replay(
     table: &mut [u32],
     groups: &mut [u64],
 ) -> Counts {
-    let mut cases = 0;
-    let mut differences = 0;
-    let mut turns = u64::MAX;
-    while turns > 0 {
+    let mut counts = Counts {
+        cases: 0,
+        differences: 0,
+        broken: true,
+    };
+    for _ in 0..u64::MAX {
         match next_case(file, bytes, events, table) {
-            Next::Case(group, different) => {
-                count(groups, group);
-                cases = wrapping_add_u64(cases, 1);
-                differences = wrapping_add_u64(differences, different);
+            Ok(case) => {
+                count(groups, case.group);
+                counts.cases = counts.cases.wrapping_add(1);
+                if !case.same {
+                    counts.differences = counts.differences.wrapping_add(1);
+                }
             }
-            Next::End => {
-                return counted(cases, differences, false);
-            }
-            Next::Broken => {
-                return counted(cases, differences, true);
+            Err(ending) => {
+                counts.broken = ending != Ending::End;
+                return counts;
             }
         }
-        turns -= 1;
     }
-    counted(cases, differences, true)
+    counts
 }
 
-fn counted(cases: u64, differences: u64, broken: bool) -> Counts
-    ensures { (result.cases ≡ cases) × (result.differences ≡ differences) × (result.broken ≡ broken) }
-{
-    Counts {
-        cases,
-        differences,
-        broken,
-    }
-}
-
+#[tactic(auto, unfolding(crate::specs::Replay::counted_in))]
 fn count(groups: &mut [u64], group: usize)
     ensures { groups.new ≡ counted_in groups.old group }
 {
     if group < groups.len() {
-        groups[group] = wrapping_add_u64(groups[group], 1);
+        groups[group] = groups[group].wrapping_add(1);
     }
 }
 
-fn next_case(file: &mut File, bytes: &mut [u8], events: &mut [u8], table: &mut [u32]) -> Next
+fn next_case(
+    file: &mut File,
+    bytes: &mut [u8],
+    events: &mut [u8],
+    table: &mut [u32],
+) -> Result<Case, Ending>
     ensures { OfFile bytes.new events.new result }
 {
-    let mut head = [0u8; cases::HEAD];
-    match input::fill(file, &mut head) {
-        Input::Failed => Next::Broken,
-        Input::Bytes(n) => {
-            if n == 0 {
-                return Next::End;
-            }
-            if n < cases::HEAD {
-                return Next::Broken;
-            }
-            let h = cases::head_of(&head);
-            match read_case(file, h, bytes, events, table) {
-                Replayed::Case(result, different) => grouped(h.letter, result, different),
-                Replayed::Broken => Next::Broken,
-            }
-        }
+    let head = cases::next_head(file)?;
+    match read_case(file, head, bytes, events, table) {
+        Some(replayed) => grouped(head.letter, replayed),
+        None => Err(Ending::Broken),
     }
 }
 
-fn grouped(letter: u8, res: u32, different: u64) -> Next
-    ensures { result ≡ group_of letter res different }
+#[tactic(auto, unfolding(crate::specs::Replay::group_of))]
+fn grouped(letter: u8, replayed: Replayed) -> Result<Case, Ending>
+    ensures { result ≡ group_of letter replayed }
 {
-    if res > 15 {
-        return Next::Broken;
+    if replayed.result > 15 {
+        return Err(Ending::Broken);
     }
-    Next::Case(index(letter) * RESULTS + res as usize, different)
+    Ok(Case {
+        group: index(letter) * RESULTS + replayed.result as usize,
+        same: replayed.same,
+    })
 }
 
 #[tactic(auto, unfolding(crate::specs::Replay::index_of))]
@@ -159,62 +144,39 @@ fn index(letter: u8) -> usize
     }
 }
 
-// The bytes behind a record's head and the stored answer behind them.
+// The bytes behind a record's head and the stored answer behind them; none where the record is broken.
 fn read_case(
     file: &mut File,
     head: Head,
     bytes: &mut [u8],
     events: &mut [u8],
     table: &mut [u32],
-) -> Replayed
-    ensures { OrBroken (OfRecord head bytes.new events.new) result }
+) -> Option<Replayed>
+    ensures { IfSome result (OfRecord head bytes.new events.new) }
 {
-    let length = head.length;
-    if bytes.len() < length {
-        return Replayed::Broken;
+    if bytes.len() < head.length {
+        return None;
     }
-    if !filled(file, &mut bytes[..length]) {
-        return Replayed::Broken;
-    }
+    let s = &mut bytes[..head.length];
+    cases::read(file, s).ok()?;
     if head.letter == b'D' {
-        return direction_case(file, &bytes[..length]);
+        return direction_case(file, s);
     }
-    match letters::entry_of(head.letter) {
-        Letter::Other => Replayed::Broken,
-        Letter::Of(entry) => session_case(file, entry, head.slots, &bytes[..length], events, table),
-    }
+    let entry = letters::entry_of(head.letter)?;
+    session_case(file, entry, head.slots, s, events, table)
 }
 
-// Whether the file holds enough to fill the buffer.
-fn filled(file: &mut File, buf: &mut [u8]) -> bool {
-    match input::fill(file, buf) {
-        Input::Failed => false,
-        Input::Bytes(n) => n == buf.len(),
-    }
-}
-
-fn direction_case(file: &mut File, bytes: &[u8]) -> Replayed
-    ensures { OrBroken (OfDirection bytes.now) result }
+fn direction_case(file: &mut File, bytes: &[u8]) -> Option<Replayed>
+    ensures { IfSome result (OfDirection bytes.now) }
 {
     let mut stored = [0u8; 4];
-    if !filled(file, &mut stored) {
-        return Replayed::Broken;
-    }
+    cases::read(file, &mut stored).ok()?;
     let result = cases::four(&stored, 0);
-    match cases::guess(bytes) {
-        Guessed::Broken => Replayed::Broken,
-        Guessed::Number(n) => judged(n == result, result),
-    }
-}
-
-#[tactic(auto, unfolding(crate::specs::Replay::judge))]
-fn judged(same: bool, res: u32) -> Replayed
-    ensures { result ≡ judge same res }
-{
-    if same {
-        return Replayed::Case(res, 0);
-    }
-    Replayed::Case(res, 1)
+    let n = cases::guess(bytes)?;
+    Some(Replayed {
+        result,
+        same: n == result,
+    })
 }
 
 fn session_case(
@@ -224,75 +186,53 @@ fn session_case(
     bytes: &[u8],
     events: &mut [u8],
     table: &mut [u32],
-) -> Replayed
-    ensures { OrBroken (OfSession entry slots bytes.now events.new) result }
+) -> Option<Replayed>
+    ensures { IfSome result (OfSession entry slots bytes.now events.new) }
 {
     let mut stored = [0u8; ANSWER];
-    if !filled(file, &mut stored) {
-        return Replayed::Broken;
-    }
+    cases::read(file, &mut stored).ok()?;
     let n = cases::four(&stored, 8) as usize;
     if events.len() / EVENT < n {
-        return Replayed::Broken;
+        return None;
     }
-    let size = EVENT * n;
-    if !filled(file, &mut events[..size]) {
-        return Replayed::Broken;
-    }
-    // A table whose length is no multiple of four has as many slots as one without its last numbers.
-    if table.len() / events::WIDTH < slots {
-        return Replayed::Broken;
-    }
-    let lent = events::WIDTH * slots + bytes.len() % events::WIDTH;
-    if table.len() < lent {
-        return Replayed::Broken;
-    }
+    let events = &mut events[..EVENT * n];
+    cases::read(file, events).ok()?;
+    let lent = cases::lent(table.len(), slots, bytes.len())?;
     let t = &mut table[..lent];
     cases::fill(t);
     let a = sessions::dissect(entry, bytes, t);
-    judged(
-        agrees(t, a, &stored, &events[..size]),
-        cases::four(&stored, 0),
-    )
+    Some(Replayed {
+        result: cases::four(&stored, 0),
+        same: agrees(t, a, &stored, events),
+    })
 }
 
 // Whether an answer and its table are the stored ones, and no number behind the events was written.
+#[tactic(auto, using(reading::proofs::Words::rest_is), unfolding(crate::specs::Replay::agree))]
 fn agrees(table: &[u32], a: Answer, stored: &[u8], events: &[u8]) -> bool
     requires { (4 * a.count ≤ length table.now) × (12 ≤ length stored.now) }
     ensures { result ≡ agree (final_of table.now a) stored.now events.now }
 {
-    let result = a.result;
-    if events::result_number(result) != cases::four(stored, 0) {
-        return false;
-    }
-    if a.place as u64 != cases::four(stored, 4) as u64 {
-        return false;
-    }
     let written = events::WIDTH * a.count;
-    if !cases::same_numbers(&table[..written], events) {
-        return false;
-    }
-    cases::untouched(&table[written..])
+    events::result_number(a.result) == cases::four(stored, 0)
+        && a.place as u64 == cases::four(stored, 4) as u64
+        && cases::same_numbers(&table[..written], events)
+        && cases::untouched(&table[written..])
 }
 
 fn print_groups(out: &mut Stdout, groups: &[u64]) -> io::Result<()> {
-    let mut g = 0;
-    while g < groups.len() {
-        if groups[g] != 0 {
-            print_group(out, g, groups[g])?;
+    for (g, n) in groups.iter().enumerate() {
+        if *n != 0 {
+            print_group(out, g, *n)?;
         }
-        g += 1;
     }
     Ok(())
 }
 
 fn print_group(out: &mut Stdout, g: usize, n: u64) -> io::Result<()> {
-    let mut text = [0u8; 64];
-    text[0] = letter_of(g / RESULTS);
-    text[1] = b' ';
-    let result = listing::word(&mut text, 2, (g % RESULTS) as u64, b' ');
-    let end = listing::word(&mut text, result, n, b'\n');
-    out.write_all(&text[..end])
+    let letter = letter_of(g / RESULTS) as char;
+    let result = g % RESULTS;
+    writeln!(out, "{letter} {result} {n}")
 }
 
 #[tactic(auto, unfolding(crate::specs::Replay::letter_of))]

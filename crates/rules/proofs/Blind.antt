@@ -4,7 +4,7 @@ use mathlib.Core.Path.{◌≡◌, refl, sym, ap, ◌∙◌}
 use mathlib.Core.Logic.{◌⊎◌, inl, inr}
 use mathlib.Core.Bool.{Bool, true, false, cond, not, ◌&&◌, ◌||◌}
 use mathlib.Core.List.{List, [], ◌∷◌}
-use mathlib.Core.Option.{Option, none, some}
+use Rattle.std.specs.Prelude.{Option, None, Some}
 use Prim.Native.Nat.{ℕ, zero, suc, ◌+◌, ◌-◌, ◌≤◌, ◌<◌}
 use native.Mathlib.Omega.{arith}
 use lib.Dec.{eqb, leb, ltb}
@@ -19,8 +19,7 @@ use Rattle.fields.specs.Common.{Known, unknown, scanned}
 use Rattle.fields.specs.Imap.{is_append, append_size, holds_colon}
 use Rattle.fields.specs.Pop3.{stls_answer, retr_answer}
 use Rattle.fields.specs.Smtp.{starts_with_helo, is_mail_from, second_line, is_data, mail_from, rcpt_to}
-use Rattle.fields.specs.declared.smtp.Address.{Address}
-use Rattle.fields.specs.declared.smtp.Address.TheVariants.{Given, Missing}
+use Rattle.reading.specs.declared.Span.{Span}
 use Rattle.fields.specs.declared.smtp.Second.{Second}
 use Rattle.fields.specs.declared.smtp.Second.TheVariants as is
 use Rattle.reading.proofs.Alike.{line_alike, bytes_alike, clean_alike, crlf_alike}
@@ -32,8 +31,7 @@ use Rattle.reading.specs.Text.{text}
 use Rattle.reading.specs.Reading.{a_line, bytes, got, fetch, reach, parted, clean, crlf}
 use Rattle.rules.specs.Imap.{on_command, on_offered, on_closing}
 use Rattle.rules.specs.Machine.{Reaction}
-use Rattle.rules.specs.Mail.{dot_line, hyphens, levels, rest, literal_body, plain_mail, boundary_free, begun, on_head, on_text, on_literal, on_preamble, on_opened, held}
-use Rattle.rules.specs.Mail.{whole, content_length, on_content, skip, on_between, on_skipping, on_resting}
+use Rattle.rules.specs.Mail.{dot_line, hyphens, levels, rest, literal_body, plain_mail, boundary_free, begun, on_head, on_text, on_literal, on_preamble, on_opened, held, whole, content_length, on_content, skip, on_between, on_skipping, on_resting}
 use Rattle.rules.specs.Phases.{Phase, State, reads, ends, wants, need, then, stop}
 use Rattle.rules.specs.Phases
 use Rattle.rules.specs.Pop3.{on_status}
@@ -66,10 +64,10 @@ either : (b : Bool) (x y : Reaction State) → still x.events ≡ true → still
 either true x y h g = h
 either false x y h g = g
 
-still_given : (at : ℕ) (a : Address) → still (given at a) ≡ true
+still_given : (at : ℕ) (a : Option Span) → still (given at a) ≡ true
 unfolding still secret given
-still_given at (Given o n) = refl
-still_given at Missing = refl
+still_given at (Some s) = refl
+still_given at None = refl
 
 still_second : (s : Second) (at : ℕ) (l : List ℕ) → still (by_second s at l).events ≡ true
 unfolding by_second still
@@ -78,10 +76,10 @@ still_second is.AuthLogin at l = refl
 still_second is.MailFrom at l = still_given at _
 still_second is.Other at l = refl
 
-still_recipient : (at : ℕ) (a : Address) → still (by_recipient at a).events ≡ true
+still_recipient : (at : ℕ) (a : Option Span) → still (by_recipient at a).events ≡ true
 unfolding by_recipient still secret
-still_recipient at (Given o n) = refl
-still_recipient at Missing = refl
+still_recipient at (Some s) = refl
+still_recipient at None = refl
 
 still_literal : (e : Encoding) (to n : ℕ) → still (literal_body e to n).events ≡ true
 unfolding literal_body still secret
@@ -102,8 +100,8 @@ still_plain m e (b ∷ os) to = refl
 
 still_begun : (m : Mail) (e : Encoding) (b : Option (List ℕ)) (os : List (List ℕ)) (to : ℕ) → still (begun m e b os to).events ≡ true
 unfolding begun still
-still_begun m e none os to = still_plain m e os to
-still_begun m e (some b) os to = either (leb levels (length os)) (stop [] TooDeep to) (then [] (Phases.preamble m b os)) refl refl
+still_begun m e None os to = still_plain m e os to
+still_begun m e (Some b) os to = either (leb levels (length os)) (stop [] TooDeep to) (then [] (Phases.preamble m b os)) refl refl
 
 still_head : (m : Mail) (k : Known) (os : List (List ℕ)) (at : ℕ) (l : List ℕ) → still (on_head m k os at l).events ≡ true
 unfolding on_head still secret

@@ -3,7 +3,7 @@
 use mathlib.Core.Path.{◌≡◌, refl, ap}
 use mathlib.Core.Bool.{Bool, true, false, cond}
 use mathlib.Core.List.{List, [], ◌∷◌}
-use mathlib.Core.Option.{Option, none, some}
+use Rattle.std.specs.Prelude.{Option, None, Some}
 use Prim.Native.Nat.{ℕ, zero, suc, ◌+◌, ◌-◌, ◌≤◌, ◌<◌}
 use native.Mathlib.Omega.{arith}
 use lib.Dec.{eqb, leb, ltb}
@@ -20,8 +20,7 @@ use Rattle.fields.proofs.Texts.{append_none}
 use Rattle.fields.specs.Imap.{is_append, holds_colon}
 use Rattle.fields.specs.Pop3.{stls_answer, retr_answer}
 use Rattle.fields.specs.Smtp.{starts_with_helo, is_mail_from, second_line, is_data, mail_from, rcpt_to}
-use Rattle.fields.specs.declared.smtp.Address.{Address}
-use Rattle.fields.specs.declared.smtp.Address.TheVariants.{Given, Missing}
+use Rattle.reading.specs.declared.Span.{Span}
 use Rattle.fields.specs.declared.smtp.Second.{Second}
 use Rattle.fields.specs.declared.smtp.Second.TheVariants as is
 use Rattle.reading.proofs.Pieces.{got_splits, got_moves, got_itself, got_reach, got_length}
@@ -29,12 +28,9 @@ use Rattle.reading.proofs.Words.{both_true}
 use Rattle.reading.specs.Bytes.{starts_with, same, ends_with, first, first_place, holds}
 use Rattle.reading.specs.Reading.{clean, drop_end, crlf, dash, a_line, delimiter, Got, got, short, past, reach, parted, fetch}
 use Rattle.reading.specs.Text.{text}
-use Rattle.reading.specs.declared.Place.{Place}
-use Rattle.reading.specs.declared.Place.TheVariants.{At, Nowhere}
 use Rattle.rules.specs.Imap.{on_command, on_offered, on_closing}
 use Rattle.rules.specs.Machine.{Reaction, Ran, turn, go, run}
-use Rattle.rules.specs.Mail.{dot_line, hyphens, levels, after_mail, rest, literal_body, plain_mail, boundary_free, begun, on_head, on_text, held, whole, on_literal}
-use Rattle.rules.specs.Mail.{on_preamble, on_opened, content_length, on_content, outermost, by_rest, skip, on_between, last_line, popped, on_skipping, on_resting}
+use Rattle.rules.specs.Mail.{dot_line, hyphens, levels, after_mail, rest, literal_body, plain_mail, boundary_free, begun, on_head, on_text, held, whole, on_literal, on_preamble, on_opened, content_length, on_content, outermost, by_rest, skip, on_between, last_line, popped, on_skipping, on_resting}
 use Rattle.rules.specs.Phases
 use Rattle.rules.specs.Phases.{Phase, State, reads, ends, wants, need, then, stop, ahead}
 use Rattle.rules.specs.Pop3.{on_status}
@@ -111,10 +107,10 @@ Leads n st = Pays n (record { events = []; next = st })
 
 -- ---- SMTP and POP3: a line lists one event at most
 module _ {n : ℕ} (byte : 0 < n) (at : ℕ) where
-  tried_pays : (a : Address) → Pays n (then (given at a) Phases.recipient)
+  tried_pays : (a : Option Span) → Pays n (then (given at a) Phases.recipient)
   unfolding given phase_credit
-  tried_pays (Given o k) = on (omega arith)
-  tried_pays Missing = on (omega arith)
+  tried_pays (Some s) = on (omega arith)
+  tried_pays None = on (omega arith)
 
   second_pays : (k : Second) (l : List ℕ) → Pays n (by_second k at l)
   unfolding by_second phase_credit is_ten
@@ -123,10 +119,10 @@ module _ {n : ℕ} (byte : 0 < n) (at : ℕ) where
   second_pays is.MailFrom l = tried_pays (mail_from l)
   second_pays is.Other l = on (omega arith)
 
-  recipient_pays : (a : Address) → Pays n (by_recipient at a)
+  recipient_pays : (a : Option Span) → Pays n (by_recipient at a)
   unfolding by_recipient phase_credit is_ten
-  recipient_pays (Given o k) = on (omega arith)
-  recipient_pays Missing = over refl
+  recipient_pays (Some s) = on (omega arith)
+  recipient_pays None = over refl
 
   reply_pays : (l : List ℕ) → Pays n (on_reply at l)
   unfolding on_reply phase_credit is_ten
@@ -179,8 +175,8 @@ module _ (e : Encoding) (to : ℕ) where
 
   begun_pays : (m : Mail) (b : Option (List ℕ)) (os : List (List ℕ)) → Pays (1 + mail_credit m) (begun m e b os to)
   unfolding begun phase_credit is_ten
-  begun_pays m none os = plain_starts m os
-  begun_pays m (some b) os = either (Pays (1 + mail_credit m)) (leb levels (length os)) (λ t. over refl) (on (omega arith))
+  begun_pays m None os = plain_starts m os
+  begun_pays m (Some b) os = either (Pays (1 + mail_credit m)) (leb levels (length os)) (λ t. over refl) (on (omega arith))
 
 head_pays : {n : ℕ} (m : Mail) (k : Known) (os : List (List ℕ)) (at : ℕ) (l : List ℕ) → 0 < length l → length l + mail_credit m ≤ n → Pays n (on_head m k os at l)
 unfolding on_head phase_credit
@@ -195,10 +191,10 @@ unfolding whole held
 whole_two kind e at zero = omega arith
 whole_two kind e at (suc k) = omega arith
 
-past_far : (k : ℕ) (q : Place) (e : ℕ) → past k q ≡ At e → k ≤ e
+past_far : (k : ℕ) (q : Option ℕ) (e : ℕ) → past k q ≡ Some e → k ≤ e
 unfolding past
-past_far k (At p) e h = let z : p + k ≡ e = cc in omega arith
-past_far k Nowhere e h = absurd (let z : ◌≡◌ {A = ℕ} 0 1 = cc in omega arith)
+past_far k (Some p) e h = let z : p + k ≡ e = cc in omega arith
+past_far k None e h = absurd (let z : ◌≡◌ {A = ℕ} 0 1 = cc in omega arith)
 
 delimiter_two : (b l : List ℕ) → fetch (delimiter b) l ≡ got l [] → 2 ≤ length l
 unfolding reach

@@ -1,7 +1,6 @@
 -- Mails: document 01, 'Mail'. `at` is where the piece begins, `to` the first byte behind it.
 -- Assumes nothing.
-use Rattle.std.specs.Prelude.{Bool, cond, ◌||◌, List, [], ◌∷◌, ◌++◌, ℕ, zero, suc, ◌+◌, ◌-◌, leb, ltb, length}
-use Rattle.std.proofs.Math.Option.{Option, none, some}
+use Rattle.std.specs.Prelude.{Bool, cond, ◌||◌, List, [], ◌∷◌, ◌++◌, ℕ, zero, suc, ◌+◌, ◌-◌, leb, ltb, length, Option, None, Some}
 use Rattle.events.specs.Events.{ev, header_line, body_start, body_line, sized_body, part_body, body_stop}
 use Rattle.events.specs.declared.Encoding.{Encoding}
 use Rattle.events.specs.declared.Encoding.TheVariants.{Unsaid}
@@ -62,8 +61,8 @@ boundary_free m e (b ∷ os) to = starts to (phase.content m e b os)
 
 -- behind the blank line: with a boundary a deeper multipart, of which there are eight
 unfoldable pub begun : Mail → Encoding → Option (List ℕ) → List (List ℕ) → ℕ → Reaction State
-begun m e none os to = boundary_free m e os to
-begun m e (some b) os to = cond (leb levels (length os)) (stop [] TooDeep to) (then [] (phase.preamble m b os))
+begun m e None os to = boundary_free m e os to
+begun m e (Some b) os to = cond (leb levels (length os)) (stop [] TooDeep to) (then [] (phase.preamble m b os))
 
 unfoldable pub on_head : Mail → Known → List (List ℕ) → ℕ → List ℕ → Reaction State
 on_head m k os at l =

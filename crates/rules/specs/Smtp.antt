@@ -1,6 +1,6 @@
 -- SMTP, both directions: document 01, 'SMTP client' and 'SMTP server'.
 -- Assumes nothing.
-use Rattle.std.specs.Prelude.{cond, List, [], ◌∷◌, ℕ, ◌+◌, length}
+use Rattle.std.specs.Prelude.{cond, List, [], ◌∷◌, ℕ, ◌+◌, length, Option, Some, None}
 use Rattle.events.specs.Events.{ev}
 use Rattle.events.specs.Events as event
 use Rattle.events.specs.declared.Encoding.TheVariants.{Unsaid}
@@ -8,8 +8,7 @@ use Rattle.events.specs.declared.Event.{Event}
 use Rattle.events.specs.declared.Outcome.TheVariants.{Done, NoHello, StartTls, NoRecipient}
 use Rattle.fields.specs.Common.{unknown}
 use Rattle.fields.specs.Smtp.{starts_with_helo, is_mail_from, second_line, is_data, mail_from, rcpt_to}
-use Rattle.fields.specs.declared.smtp.Address.{Address}
-use Rattle.fields.specs.declared.smtp.Address.TheVariants.{Given, Missing}
+use Rattle.reading.specs.declared.Span.{Span}
 use Rattle.fields.specs.declared.smtp.Second.{Second}
 use Rattle.fields.specs.declared.smtp.Second.TheVariants as is
 use Rattle.reading.specs.Bytes.{starts_with}
@@ -26,9 +25,9 @@ unfoldable pub on_hello : ℕ → List ℕ → Reaction State
 on_hello at l = cond (starts_with_helo l) (then [] second) (stop [] NoHello 0)
 
 -- tried as sender: failing gives no event
-unfoldable pub given : ℕ → Address → List Event
-given at (Given o n) = ev event.sender (at + o) n Unsaid ∷ []
-given at Missing = []
+unfoldable pub given : ℕ → Option Span → List Event
+given at (Some a) = ev event.sender (at + a.at) a.len Unsaid ∷ []
+given at None = []
 
 abbrev pub tried : ℕ → List ℕ → Reaction State
 tried at l = then (given at (mail_from l)) recipient
@@ -57,9 +56,9 @@ unfoldable pub on_seeking : ℕ → List ℕ → Reaction State
 on_seeking at l = cond (is_mail_from (clean l)) (tried at (clean l)) (then [] seeking)
 
 -- recipients, until DATA; then a mail
-unfoldable pub by_recipient : ℕ → Address → Reaction State
-by_recipient at (Given o n) = then (ev event.recipient (at + o) n Unsaid ∷ []) recipient
-by_recipient at Missing = stop [] NoRecipient at
+unfoldable pub by_recipient : ℕ → Option Span → Reaction State
+by_recipient at (Some a) = then (ev event.recipient (at + a.at) a.len Unsaid ∷ []) recipient
+by_recipient at None = stop [] NoRecipient at
 
 unfoldable pub on_recipient : ℕ → List ℕ → Reaction State
 on_recipient at l = cond (is_data (clean l)) (then [] (head Smtp unknown [])) (by_recipient at (rcpt_to (clean l)))

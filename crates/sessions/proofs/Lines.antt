@@ -2,24 +2,23 @@
 -- Assumes nothing.
 use mathlib.Core.Path.{◌≡◌, sym, ap, ◌∙◌}
 use mathlib.Core.List.{List, [], ◌∷◌}
-use Prim.Native.Nat.{ℕ, ◌+◌, ◌-◌}
+use Prim.Native.Nat.{ℕ, ◌-◌}
 use native.Mathlib.Omega.{arith}
 use lib.ListN.{drop}
+use Rattle.std.specs.Prelude.{Err}
 use Rattle.events.specs.Events.{ev}
 use Rattle.events.specs.declared.Encoding.TheVariants.{Unsaid}
 use Rattle.events.specs.declared.Log.{Log}
-use Rattle.events.specs.declared.Outcome.{Outcome}
 use Rattle.fields.specs.Common.{part}
 use Rattle.reading.specs.Reading.{a_line}
 use Rattle.reads.proofs.Laws.{clean_length}
-use Rattle.reads.specs.Clauses.{Ends, Stops, Cleaned, Stopped, Full, Written}
+use Rattle.reads.specs.Clauses.{Ends, Cleaned, Full, Written}
 use Rattle.reads.specs.declared.Stop.{Stop}
 use Rattle.rules.specs.Machine.{before}
 use Rattle.rules.specs.Phases.{Phase, State, reads, wants}
 use Rattle.rules.specs.Sessions.{session, settle}
-use Rattle.sessions.specs.Walks.{goes, under, Walks, Lists, apart, LinedTo, LinedStop}
-use Rattle.sessions.specs.declared.walks.Walk.{Walk}
-use Rattle.sessions.specs.declared.walks.Walk.TheVariants as walk
+use Rattle.sessions.specs.Walks.{goes, under, Walk, Walks, Short, Lists, apart, LinedTo, LinedStop}
+use Rattle.sessions.specs.declared.walks.Lined.{Lined}
 use Rattle.sessions.proofs.Readings.{stays, turn, written_left, full_left}
 use Rattle.sessions.proofs.Steps.{further}
 
@@ -29,13 +28,12 @@ module _ (s t : List ℕ) (log : Log) (at kind : ℕ) where
   listing : (end e : ℕ) (ph : Phase) (h : Lists kind at ph) → Cleaned s at end e
       → session (reads ph) at (drop at s) ≡ before (ev kind at (end - at) Unsaid ∷ []) (under (apart h (part s at e)) e (drop e s))
   listing end e ph h d =
-      let k : at + (e - at) ≡ e = omega (arith, d.ends.on) in
       let f : Ends (wants ph) s at e = rw h.wants d.ends in
-      turn ph s at e at f ∙ rw (k, h.is (part s at e), ← clean_length d)
+      turn ph s at e f ∙ rw (h.is (part s at e), ← clean_length d)
 
   -- its event is written
-  pub lined_to : {end e : ℕ} {next : Log} {u : List ℕ} → Cleaned s at end e
-      → Written t log (ev kind at (end - at) Unsaid ∷ []) next u → LinedTo s t log at kind end e next u
+  pub lined_to : {end e : ℕ} {next : Log} {u : List ℕ} → Cleaned s at end e → Written t log (ev kind at (end - at) Unsaid ∷ []) next u
+      → LinedTo s t log at kind (record { clean = end; to = record { at = e; log = next } }) u
   lined_to {end} {e} d p = record {
     line = d;
     is = λ ph h. written_left p (under (apart h (part s at e)) e (drop e s)) ∙ ap (settle t log) (sym (listing end e ph h d));
@@ -49,16 +47,16 @@ module _ (s t : List ℕ) (log : Log) (at kind : ℕ) where
   }
 
   -- the line is short
-  pub lined_short : {o : Outcome} {a : Stop} → Stops a_line s at o → Stopped o at log a → LinedStop s t log at kind a t
-  lined_short d w = record { is = λ ph h. rw (w.result, w.place, w.log) (stays ph s at at (rw h.wants d) t log) }
+  pub lined_short : {a : Stop} → Short a_line s log at a → LinedStop s t log at kind a t
+  lined_short d = record { is = λ ph h. stays ph s t log at (rw h.wants d) }
 
 -- ---- what a listed line leaves to do
 module _ {s t : List ℕ} {log : Log} {at kind : ℕ} {ph : Phase} {u : List ℕ} {to : ℕ → State} (h : Lists kind at ph) where
   -- what the phase does with it, its event apart
-  pub line_on : {end e : ℕ} {next : Log} {r : Walk} {v : List ℕ} → LinedTo s t log at kind end e next u
-      → Walks s u next e (apart h (part s at e)) to r v → Walks s t log at (goes (reads ph)) to r v
-  line_on {e = e} {r = r} d w = record { moved = further s at e r (omega (arith, d.line.ends.on)) w.moved; is = w.is ∙ d.is ph h }
+  pub line_on : {l : Lined} {r : Walk} {v : List ℕ} → LinedTo s t log at kind l u
+      → Walks s u l.to.log l.to.at (apart h (part s at l.to.at)) to r v → Walks s t log at (goes (reads ph)) to r v
+  line_on {l} {r} d w = record { moved = further s at l.to.at r (omega (arith, d.line.ends.on)) w.moved; is = w.is ∙ d.is ph h }
 
   -- nothing, where it stopped
-  pub line_stop : {a : Stop} → LinedStop s t log at kind a u → Walks s t log at (goes (reads ph)) to (walk.Stopped a) u
+  pub line_stop : {a : Stop} → LinedStop s t log at kind a u → Walks s t log at (goes (reads ph)) to (Err a) u
   line_stop d = record { moved = tt; is = d.is ph h }

@@ -3,31 +3,32 @@
 use mathlib.Core.Path.{◌≡◌, refl, sym, ap, ◌∙◌}
 use mathlib.Core.Bool.{true, false}
 use mathlib.Core.List.{List, [], ◌∷◌}
+use mathlib.Core.Logic.{◌⊎◌, inl, inr}
 use Prim.Native.Nat.{ℕ, zero, suc, ◌+◌, ◌-◌, ◌≤◌, ◌<◌}
 use native.Mathlib.Omega.{arith}
 use lib.ListN.{length}
+use Rattle.std.specs.Prelude.{Ok, Err}
 use borrow.Author.Tests.{lt-ltb, le-ltb}
 use Rattle.events.specs.Events.{ev, body_start, body_line, body_stop, sized_body, part_body}
 use Rattle.events.specs.declared.Encoding.{Encoding}
 use Rattle.events.specs.declared.Encoding.TheVariants.{Unsaid}
 use Rattle.events.specs.declared.Log.{Log}
 use Rattle.events.specs.declared.Outcome.TheVariants.{BadDelimiter}
-use Rattle.fields.specs.Common.{part, unknown}
+use Rattle.fields.specs.Common.{part, unknown, bytes_of}
 use Rattle.reading.specs.Bytes.{starts_with, same}
-use Rattle.reading.specs.Reading.{Need, crlf, delimiter}
+use Rattle.reading.specs.Reading.{Need, two, crlf, delimiter}
+use Rattle.reading.specs.declared.Span.{Span}
 use Rattle.reads.specs.Clauses.{Ends, Pair, NoPair, Stopped, Full, Written, Begins}
 use Rattle.reads.specs.declared.Stop.{Stop}
+use Rattle.reads.specs.declared.Two.{Two}
+use Rattle.reads.specs.declared.Two.TheVariants as pair
 use Rattle.rules.specs.Machine.{Reaction}
-use Rattle.rules.specs.Mail.{dot_line, hyphens, after_mail, rest, literal_body, whole, content_length, outermost, by_rest, skip, last_line, popped, on_text, on_literal}
-use Rattle.rules.specs.Mail.{on_preamble, on_opened, on_content, on_between, on_skipping, on_resting}
+use Rattle.rules.specs.Mail.{dot_line, hyphens, after_mail, rest, literal_body, whole, content_length, outermost, by_rest, skip, last_line, popped, on_text, on_literal, on_preamble, on_opened, on_content, on_between, on_skipping, on_resting}
 use Rattle.rules.specs.Phases.{Phase, State, reads, wants, then, closing, head, text, literal, preamble, opened, content, between, skipping, resting}
 use Rattle.rules.specs.Sessions.{reacts}
-use Rattle.sessions.specs.Walks.{goes, Walks, piece, Lies}
-use Rattle.sessions.specs.declared.walks.Boundary.{Boundary}
+use Rattle.sessions.specs.Walks.{goes, Walk, reached, Walks, TwoIs, Lies}
 use Rattle.rules.specs.declared.Mail.{Mail}
-use Rattle.sessions.specs.declared.walks.Walk.{Walk}
-use Rattle.sessions.specs.declared.walks.Walk.TheVariants as walk
-use Rattle.sessions.proofs.Readings.{piece_length}
+use Rattle.sessions.proofs.Readings.{bytes_long}
 use Rattle.sessions.proofs.Steps as steps
 
 -- a piece that a phase turns into a reaction
@@ -75,44 +76,49 @@ module _ {nd : Need} {s : List ℕ} {at e : ℕ} (d : Ends nd s at e) where
   unfolding reacts on_resting
   resting_all m b os n = rw behind
 
+-- ---- two bytes that are not CRLF
+pub record NotCrlf (s : List ℕ) (at : ℕ) : Type 0 where
+  pub ends : Ends two s at (at + 2)
+  pub is : same crlf (part s at (at + 2)) ≡ false
+
+pub not_crlf : {s : List ℕ} (log : Log) {at : ℕ} (x : Two) → TwoIs s log at (Ok x) → (x ≡ pair.Hyphens) ⊎ (x ≡ pair.Other) → NotCrlf s at
+unfolding same starts_with
+not_crlf log x p (inl e) = let h = rw e at p in record { ends = h.ends; is = rw h.is refl }
+not_crlf log x p (inr e) = let h = rw e at p in record { ends = h.ends; is = h.no_crlf }
+
 -- ---- a delimiter, and the two bytes behind it
 module _ {s t : List ℕ} {log : Log} {at : ℕ} (m : Mail) (b : List ℕ) (os : List (List ℕ)) where
   -- a preamble: all up to the first delimiter
-  pub preamble_on : {e : ℕ} → Ends (delimiter b) s at e → Walks s t log at (then [] (preamble m b os)) (λ q. reads (opened m b os)) (walk.Went e log) t
+  pub preamble_on : {e : ℕ} → Ends (delimiter b) s at e → Walks s t log at (then [] (preamble m b os)) (λ q. reads (opened m b os)) (Ok (reached e log)) t
   unfolding reacts on_preamble wants
   preamble_on {e} d = steps.read (preamble m b os) d (steps.here e d.within)
 
   -- behind a preamble: CRLF opens the first part, anything else is refused
-  pub opened_crlf : Pair s at crlf → Walks s t log at (then [] (opened m b os)) (λ q. reads (head m unknown (b ∷ os))) (walk.Went (at + 2) log) t
+  pub opened_crlf : Pair s at crlf → Walks s t log at (then [] (opened m b os)) (λ q. reads (head m unknown (b ∷ os))) (Ok (reached (at + 2) log)) t
   unfolding reacts on_opened same starts_with wants
   opened_crlf p = steps.read (opened m b os) p.ends (rw p.is (steps.here (at + 2) p.ends.within))
 
-  module _ {to : ℕ → State} {a : Stop} where
-    pub opened_hyphens : Pair s at hyphens → Stopped BadDelimiter at log a → Walks s t log at (then [] (opened m b os)) to (walk.Stopped a) t
-    unfolding reacts on_opened same starts_with wants
-    opened_hyphens p w = steps.read (opened m b os) p.ends (rw p.is (steps.stop w))
-
-    pub opened_other : NoPair s at → Stopped BadDelimiter at log a → Walks s t log at (then [] (opened m b os)) to (walk.Stopped a) t
-    unfolding reacts on_opened wants
-    opened_other p w = steps.read (opened m b os) p.ends (rw p.no_crlf (steps.stop w))
+  pub opened_other : {to : ℕ → State} {a : Stop} → NotCrlf s at → Stopped BadDelimiter at log a → Walks s t log at (then [] (opened m b os)) to (Err a) t
+  unfolding reacts on_opened wants
+  opened_other p w = steps.read (opened m b os) p.ends (rw p.is (steps.stop w))
 
   -- behind a content: CRLF opens the next part, two hyphens close the multipart, anything else is refused
-  pub between_crlf : Pair s at crlf → Walks s t log at (then [] (between m b os)) (λ q. reads (head m unknown (b ∷ os))) (walk.Went (at + 2) log) t
+  pub between_crlf : Pair s at crlf → Walks s t log at (then [] (between m b os)) (λ q. reads (head m unknown (b ∷ os))) (Ok (reached (at + 2) log)) t
   unfolding reacts on_between same starts_with wants
   between_crlf p = steps.read (between m b os) p.ends (rw p.is (steps.here (at + 2) p.ends.within))
 
-  pub between_hyphens : Pair s at hyphens → Walks s t log at (then [] (between m b os)) (λ q. skip m b os q) (walk.Went (at + 2) log) t
+  pub between_hyphens : Pair s at hyphens → Walks s t log at (then [] (between m b os)) (λ q. skip m b os q) (Ok (reached (at + 2) log)) t
   unfolding reacts on_between same starts_with wants
   between_hyphens p = steps.read (between m b os) p.ends (rw p.is (steps.here (at + 2) p.ends.within))
 
-  pub between_other : {to : ℕ → State} {a : Stop} → NoPair s at → Stopped BadDelimiter at log a → Walks s t log at (then [] (between m b os)) to (walk.Stopped a) t
+  pub between_other : {to : ℕ → State} {a : Stop} → NoPair s at → Stopped BadDelimiter at log a → Walks s t log at (then [] (between m b os)) to (Err a) t
   unfolding reacts on_between wants
   between_other p w = steps.read (between m b os) p.ends (rw (p.no_crlf, p.no_hyphens) (steps.stop w))
 
 -- ---- a literal's body: its start, then what is left of the literal
 module _ {s t : List ℕ} {log : Log} {to : ℕ → State} {at : ℕ} {u : List ℕ} (c : Encoding) where
   -- the start finds no slot
-  pub literal_full : {a : Stop} (n : ℕ) → Full t log (ev body_start at 0 Unsaid ∷ []) a u → Walks s t log at (literal_body c at n) to (walk.Stopped a) u
+  pub literal_full : {a : Stop} (n : ℕ) → Full t log (ev body_start at 0 Unsaid ∷ []) a u → Walks s t log at (literal_body c at n) to (Err a) u
   unfolding literal_body
   literal_full zero p = steps.note_stop (ev body_stop at 0 Unsaid ∷ []) (reads closing) p
   literal_full (suc n) p = steps.note_stop [] (reads (literal c n)) p
@@ -152,10 +158,10 @@ module _ (m : Mail) (b : List ℕ) (os : List (List ℕ)) (at : ℕ) where
   skip_line h = line_if m b os (rest m at) h
 
 -- ---- which read follows behind a close, as the code decides it
-module _ (s : List ℕ) (m : Mail) (b : List ℕ) (os : List (List ℕ)) (at : ℕ) (outer : Boundary) (n : ℕ) (e : n ≡ rest m at) (o : outermost b os ≡ piece s outer)
+module _ (s : List ℕ) (m : Mail) (b : List ℕ) (os : List (List ℕ)) (at : ℕ) (outer : Span) (n : ℕ) (e : n ≡ rest m at) (o : outermost b os ≡ bytes_of s outer)
     (l : Lies s outer) where
   outer_long : length (outermost b os) ≡ outer.len
-  outer_long = ap length o ∙ piece_length s outer l
+  outer_long = ap length o ∙ bytes_long s outer l
 
   pub skip_by_rest : 0 < n → n < outer.len → goes (skip m b os at) ≡ then [] (resting m b os (n - 1))
   skip_by_rest h g = ap goes (skip_rest m b os at (omega arith) (omega (arith, outer_long)) ∙ ap (λ (k : ℕ). reads (resting m b os (k - 1))) (sym e))

@@ -13,26 +13,24 @@ use Rattle.events.specs.declared.Log.{Log}
 use Rattle.events.specs.declared.Outcome.TheVariants.{Done, NoHello, StartTls, NoRecipient}
 use Rattle.fields.specs.Common.{part, unknown}
 use Rattle.fields.specs.Smtp.{starts_with_helo, is_mail_from, second_line, is_data, rcpt_to}
-use Rattle.fields.specs.declared.smtp.Address.{Address}
-use Rattle.fields.specs.declared.smtp.Address.TheVariants.{Given, Missing}
+use Rattle.std.specs.Prelude.{Option, Some, None, Ok, Err}
+use Rattle.reading.specs.declared.Span.{Span}
 use Rattle.fields.specs.declared.smtp.Second.TheVariants as is
 use Rattle.reading.proofs.Places.{by_test}
 use Rattle.reading.specs.Bytes.{starts_with}
 use Rattle.reading.specs.Reading.{a_line, clean}
 use Rattle.reading.specs.Text.{text}
-use Rattle.reads.specs.Clauses.{Ends, Cleaned, Stopped, Notes}
-use Rattle.reads.specs.declared.Noted.{Noted}
+use Rattle.reads.specs.Clauses.{Ends, Cleaned, Stopped, Full, Written}
 use Rattle.reads.specs.declared.Stop.{Stop}
 use Rattle.rules.specs.Phases.{State, reads, hello, second, user, password, sender, seeking, recipient, reply, head, then, wants}
 use Rattle.rules.specs.Sessions.{reacts}
 use Rattle.rules.specs.Smtp.{on_hello, given, tried, by_second, on_second, on_user, on_password, on_sender, on_seeking, by_recipient, on_recipient, on_reply}
-use Rattle.sessions.specs.Walks.{went_of, Walks, Lists, LinedTo, LinedStop}
+use Rattle.sessions.specs.Walks.{Walk, reached, Walks, Turns, Lists, LinedTo, LinedStop}
+use Rattle.sessions.specs.declared.walks.Lined.{Lined}
 use Rattle.rules.specs.declared.Mail.TheVariants.{Smtp}
-use Rattle.sessions.specs.declared.walks.Walk.{Walk}
-use Rattle.sessions.specs.declared.walks.Walk.TheVariants as walk
 use Rattle.sessions.proofs.Lines.{line_on, line_stop}
 use Rattle.sessions.proofs.MailTurns.{behind}
-use Rattle.sessions.proofs.Steps.{here, stop, read, adds}
+use Rattle.sessions.proofs.Steps.{here, stop, read, add, add_stop}
 
 -- ---- the first line
 module _ {s t : List ℕ} {log : Log} {to : ℕ → State} where
@@ -41,13 +39,13 @@ module _ {s t : List ℕ} {log : Log} {to : ℕ → State} where
   unfolding reacts on_hello wants
   hello_said {e} d h w = let k : e - 0 ≡ e = omega arith in read hello d (rw (k, h) w)
 
-  pub hello_not : {e : ℕ} {a : Stop} → Ends a_line s 0 e → starts_with_helo (take e s) ≡ false → Stopped NoHello 0 log a → Walks s t log 0 (then [] hello) to (walk.Stopped a) t
+  pub hello_not : {e : ℕ} {a : Stop} → Ends a_line s 0 e → starts_with_helo (take e s) ≡ false → Stopped NoHello 0 log a → Walks s t log 0 (then [] hello) to (Err a) t
   unfolding reacts on_hello wants
   hello_not {e} d h w = let k : e - 0 ≡ e = omega arith in read hello d (rw (k, h) (stop w))
 
 -- ---- a line from `at` up to e, whose clean part ends at `end`
 module _ {s : List ℕ} {at end e : ℕ} (d : Cleaned s at end e) {t : List ℕ} {log : Log} {to : ℕ → State} where
-  pub second_tls : {a : Stop} → second_line (part s at end) ≡ is.StartTls → Stopped StartTls at log a → Walks s t log at (then [] second) to (walk.Stopped a) t
+  pub second_tls : {a : Stop} → second_line (part s at end) ≡ is.StartTls → Stopped StartTls at log a → Walks s t log at (then [] second) to (Err a) t
   unfolding reacts on_second by_second wants
   second_tls h w = read second d.ends (rw (← d.is, h) (stop w))
 
@@ -85,26 +83,38 @@ module _ {s : List ℕ} {at end e : ℕ} (d : Cleaned s at end e) {t : List ℕ}
     recipient_line h w = read recipient d.ends (rw (← d.is, h) w)
 
 -- ---- the address that a line at `at` holds: its event, and reading goes on at e
-module _ {s t : List ℕ} {log : Log} (at : ℕ) {e : ℕ} {x : Address} where
+module _ {s t : List ℕ} {log : Log} (at : ℕ) {e : ℕ} {x : Option Span} where
   -- tried as sender: without one, nothing is listed
-  pub tried_none : x ≡ Missing → e ≤ length s → Walks s t log e (then (given at x) recipient) (λ p. reads recipient) (walk.Went e log) t
+  pub tried_none : x ≡ None → e ≤ length s → Walks s t log e (then (given at x) recipient) (λ p. reads recipient) (Ok (reached e log)) t
   unfolding given
   tried_none h g = rw h (here e g)
 
-  pub tried_some : {o n : ℕ} {r : Walk} {u : List ℕ} (k : Noted) → x ≡ Given o n → r ≡ went_of k e → Notes t log (ev event.sender (at + o) n Unsaid ∷ []) k u → e ≤ length s
-      → Walks s t log e (then (given at x) recipient) (λ p. reads recipient) r u
-  unfolding given
-  tried_some k h q w g = rw h (adds k q w s (λ p. reads recipient) g)
-
   -- a recipient: without one, the session is refused
-  pub recipient_none : {to : ℕ → State} {a : Stop} → x ≡ Missing → Stopped NoRecipient at log a → Walks s t log e (by_recipient at x) to (walk.Stopped a) t
+  pub recipient_none : {to : ℕ → State} {a : Stop} → x ≡ None → Stopped NoRecipient at log a → Walks s t log e (by_recipient at x) to (Err a) t
   unfolding by_recipient
   recipient_none h w = rw h (stop w)
 
-  pub recipient_some : {o n : ℕ} {r : Walk} {u : List ℕ} (k : Noted) → x ≡ Given o n → r ≡ went_of k e → Notes t log (ev event.recipient (at + o) n Unsaid ∷ []) k u
-      → e ≤ length s → Walks s t log e (by_recipient at x) (λ p. reads recipient) r u
-  unfolding by_recipient
-  recipient_some k h q w g = rw h (adds k q w s (λ p. reads recipient) g)
+  -- one that is listed under either, and one that finds no slot
+  module _ {a : Span} {u : List ℕ} (h : x ≡ Some a) where
+    pub tried_some : {next : Log} → Written t log (ev event.sender (at + a.at) a.len Unsaid ∷ []) next u → e ≤ length s
+        → Walks s t log e (then (given at x) recipient) (λ p. reads recipient) (Ok (reached e next)) u
+    unfolding given
+    tried_some w g = rw h (add w g)
+
+    pub tried_full : {b : Stop} → Full t log (ev event.sender (at + a.at) a.len Unsaid ∷ []) b u
+        → Walks s t log e (then (given at x) recipient) (λ p. reads recipient) (Err b) u
+    unfolding given
+    tried_full w = rw h (add_stop (reads recipient) w)
+
+    pub recipient_some : {next : Log} → Written t log (ev event.recipient (at + a.at) a.len Unsaid ∷ []) next u → e ≤ length s
+        → Walks s t log e (by_recipient at x) (λ p. reads recipient) (Ok (reached e next)) u
+    unfolding by_recipient
+    recipient_some w g = rw h (add w g)
+
+    pub recipient_full : {b : Stop} → Full t log (ev event.recipient (at + a.at) a.len Unsaid ∷ []) b u
+        → Walks s t log e (by_recipient at x) (λ p. reads recipient) (Err b) u
+    unfolding by_recipient
+    recipient_full w = rw h (add_stop (reads recipient) w)
 
 -- ---- lines listed
 user_lists : (at : ℕ) → Lists event.user at user
@@ -120,31 +130,31 @@ unfolding reacts on_reply wants
 reply_lists at = record { wants = refl; behind = λ l. []; is = λ l. by_test (starts_with (text "221") (clean l)) (λ h. rw h) (λ h. rw h) }
 
 module _ {s t : List ℕ} {log : Log} {at : ℕ} {to : ℕ → State} {u : List ℕ} where
-  pub user_stop : {a : Stop} → LinedStop s t log at event.user a u → Walks s t log at (then [] user) to (walk.Stopped a) u
+  pub user_stop : {a : Stop} → LinedStop s t log at event.user a u → Walks s t log at (then [] user) to (Err a) u
   user_stop = line_stop (user_lists at)
 
-  pub password_stop : {a : Stop} → LinedStop s t log at event.password a u → Walks s t log at (then [] password) to (walk.Stopped a) u
+  pub password_stop : {a : Stop} → LinedStop s t log at event.password a u → Walks s t log at (then [] password) to (Err a) u
   password_stop = line_stop (password_lists at)
 
-  pub reply_stop : {a : Stop} → LinedStop s t log at event.server_line a u → Walks s t log at (then [] reply) to (walk.Stopped a) u
-  reply_stop = line_stop (reply_lists at)
-
-  module _ {end e : ℕ} {next : Log} where
-    pub user_on : {r : Walk} {v : List ℕ} → LinedTo s t log at event.user end e next u → Walks s u next e (then [] password) to r v → Walks s t log at (then [] user) to r v
+  module _ {l : Lined} where
+    pub user_on : {r : Walk} {v : List ℕ} → LinedTo s t log at event.user l u → Walks s u l.to.log l.to.at (then [] password) to r v → Walks s t log at (then [] user) to r v
     unfolding user_lists reacts on_user
     user_on d w = line_on (user_lists at) d w
 
-    pub password_on : {r : Walk} {v : List ℕ} → LinedTo s t log at event.password end e next u → Walks s u next e (then [] sender) to r v
+    pub password_on : {r : Walk} {v : List ℕ} → LinedTo s t log at event.password l u → Walks s u l.to.log l.to.at (then [] sender) to r v
         → Walks s t log at (then [] password) to r v
     unfolding password_lists reacts on_password
     password_on d w = line_on (password_lists at) d w
 
-    pub reply_on : {r : Walk} {v : List ℕ} → LinedTo s t log at event.server_line end e next u → starts_with (text "221") (part s at end) ≡ false
-        → Walks s u next e (then [] reply) to r v → Walks s t log at (then [] reply) to r v
-    unfolding reply_lists reacts on_reply
-    reply_on d h w = line_on (reply_lists at) d (rw (← d.line.is, h) w)
+module _ {s t : List ℕ} {log : Log} {at : ℕ} {u : List ℕ} where
+  pub reply_stop : {a : Stop} → LinedStop s t log at event.server_line a u → Turns s t log at reply (Err a) u
+  reply_stop d = record { walks = line_stop (reply_lists at) d; farther = tt }
 
-    pub reply_last : {a : Stop} → LinedTo s t log at event.server_line end e next u → starts_with (text "221") (part s at end) ≡ true
-        → Stopped Done e next a → Walks s t log at (then [] reply) to (walk.Stopped a) u
+  module _ {l : Lined} (d : LinedTo s t log at event.server_line l u) where
+    pub reply_on : starts_with (text "221") (part s at l.clean) ≡ false → Turns s t log at reply (Ok l.to) u
     unfolding reply_lists reacts on_reply
-    reply_last d h w = line_on (reply_lists at) d (rw (← d.line.is, h, behind d.line.ends) (stop w))
+    reply_on h = record { walks = line_on (reply_lists at) d (rw (← d.line.is, h) (here l.to.at d.line.ends.within)); farther = d.line.ends.on }
+
+    pub reply_last : {a : Stop} → starts_with (text "221") (part s at l.clean) ≡ true → Stopped Done l.to.at l.to.log a → Turns s t log at reply (Err a) u
+    unfolding reply_lists reacts on_reply
+    reply_last h w = record { walks = line_on (reply_lists at) d (rw (← d.line.is, h, behind d.line.ends) (stop w)); farther = tt }

@@ -3,102 +3,82 @@ ghost use Rattle.std.specs.Prelude.{[], ◌≤◌, length};
 ghost use Rattle.reads.specs.Clauses.{Begins};
 ghost use Rattle.rules.specs.Mail.{after_mail, starts, plain_mail, literal_body};
 ghost use Rattle.rules.specs.Phases.{reads, text, closing, then};
-ghost use Rattle.rules.specs.Sessions.{limit};
 ghost use Rattle.rules.specs.declared.Mail.{Mail};
 ghost use Rattle.sessions.specs.Walks.{Walks};
 
-use crate::walks::{Walk, went};
-use events::{BODY_LINE, BODY_START, BODY_STOP, Encoding, Log, Outcome, SIZED_BODY};
-use reads::{Noted, Read, hold, line, note, sized, stopped};
+use crate::buffer::Buffer;
+use crate::walks::{Reached, Walk};
+use events::{Encoding, Kind, Outcome};
+use reads::hold;
 use rules::Mail;
 
 // A mail with no boundary: lines up to the dot line, or what the literal has left.
 pub fn plain_mail(
-    s: &[u8],
-    at: usize,
+    s: Buffer,
+    from: Reached,
     mail: Mail,
     encoding: Encoding,
     table: &mut [u32],
-    log: Log,
 ) -> Walk
-    requires { (length s.now ≤ limit) × (at ≤ length s.now) × Begins mail at }
-    ensures { Walks s.now table.old log at (plain_mail mail encoding at) (after_mail mail) result table.new }
+    requires { (from.at ≤ length s.bytes.now) × Begins mail from.at }
+    ensures { Walks s.entry.bytes.now table.old from.log from.at (plain_mail mail encoding from.at) (after_mail mail) result table.new }
 {
     match mail {
-        Mail::Smtp => body(s, at, encoding, table, log),
-        Mail::Pop3 => body(s, at, encoding, table, log),
+        Mail::Smtp | Mail::Pop3 => body(s, from, encoding, table),
         Mail::Imap(size, start) => {
-            let head = (at - start) as u64;
-            if size < head {
-                return Walk::Stopped(stopped(Outcome::SmallLiteral, at, log));
-            }
-            size_body(s, at, size - head, encoding, table, log)
+            let head = (from.at - start) as u64;
+            let Some(left) = size.checked_sub(head) else {
+                return Err(from.stop(Outcome::SmallLiteral));
+            };
+            size_body(s, from, left, encoding, table)
         }
     }
 }
 
 // The start of a body, then lines up to the dot line.
-fn body(s: &[u8], at: usize, encoding: Encoding, table: &mut [u32], log: Log) -> Walk
-    requires { (length s.now ≤ limit) × (at ≤ length s.now) }
-    ensures { (m : Mail) → Walks s.now table.old log at (starts at (text m encoding)) (after_mail m) result table.new }
+fn body(s: Buffer, from: Reached, encoding: Encoding, table: &mut [u32]) -> Walk
+    requires { from.at ≤ length s.bytes.now }
+    ensures { (m : Mail) → Walks s.entry.bytes.now table.old from.log from.at (starts from.at (text m encoding)) (after_mail m) result table.new }
 {
-    match note(table, log, BODY_START, at, 0, Encoding::Unsaid) {
-        Noted::Stopped(a) => Walk::Stopped(a),
-        Noted::Written(next) => body_lines(s, at, encoding, table, next),
-    }
+    let log = from.note(table, Kind::BodyStart, 0, Encoding::Unsaid)?;
+    body_lines(s, Reached { log, ..from }, encoding, table)
 }
 
-fn body_lines(s: &[u8], at: usize, encoding: Encoding, table: &mut [u32], log: Log) -> Walk
-    requires { (length s.now ≤ limit) × (at ≤ length s.now) }
-    ensures { (m : Mail) → Walks s.now table.old log at (then [] (text m encoding)) (after_mail m) result table.new }
+fn body_lines(s: Buffer, from: Reached, encoding: Encoding, table: &mut [u32]) -> Walk
+    requires { from.at ≤ length s.bytes.now }
+    ensures { (m : Mail) → Walks s.entry.bytes.now table.old from.log from.at (then [] (text m encoding)) (after_mail m) result table.new }
 {
-    let mut p = at;
-    let mut n = log;
+    let mut here = from;
     loop {
-        match line(s, p) {
-            Read::Stop(o) => {
-                return Walk::Stopped(stopped(o, p, n));
-            }
-            Read::To(e) => {
-                if reading::equals(&s[p..e], b".\r\n") {
-                    return went(note(table, n, BODY_STOP, p, 0, Encoding::Unsaid), e);
-                }
-                match note(table, n, BODY_LINE, p, e - p, encoding) {
-                    Noted::Stopped(a) => {
-                        return Walk::Stopped(a);
-                    }
-                    Noted::Written(next) => {
-                        p = e;
-                        n = next;
-                    }
-                }
-            }
+        let end = s.line(here)?;
+        if reading::equals(&s.bytes[here.at..end], b".\r\n") {
+            let log = here.note(table, Kind::BodyStop, 0, Encoding::Unsaid)?;
+            return Ok(Reached { at: end, log });
         }
+        let log = here.note(table, Kind::BodyLine, end - here.at, encoding)?;
+        here = Reached { at: end, log };
     }
 }
 
 // The start of a body, then so many bytes.
-fn size_body(
-    s: &[u8],
-    at: usize,
-    size: u64,
-    encoding: Encoding,
-    table: &mut [u32],
-    log: Log,
-) -> Walk
-    requires { (length s.now ≤ limit) × (at ≤ length s.now) }
-    ensures { Walks s.now table.old log at (literal_body encoding at size) (λ p. reads closing) result table.new }
+fn size_body(s: Buffer, from: Reached, size: u64, encoding: Encoding, table: &mut [u32]) -> Walk
+    requires { from.at ≤ length s.bytes.now }
+    ensures { Walks s.entry.bytes.now table.old from.log from.at (literal_body encoding from.at size) (λ p. reads closing) result table.new }
 {
-    match note(table, log, BODY_START, at, 0, Encoding::Unsaid) {
-        Noted::Stopped(a) => Walk::Stopped(a),
-        Noted::Written(next) => {
-            if size == 0 {
-                return went(note(table, next, BODY_STOP, at, 0, Encoding::Unsaid), at);
-            }
-            match sized(s, at, size) {
-                Read::Stop(o) => Walk::Stopped(stopped(o, at, next)),
-                Read::To(e) => went(hold(table, next, SIZED_BODY, at, e - at, encoding), e),
-            }
-        }
+    let log = from.note(table, Kind::BodyStart, 0, Encoding::Unsaid)?;
+    let here = Reached { log, ..from };
+    if size == 0 {
+        let log = here.note(table, Kind::BodyStop, 0, Encoding::Unsaid)?;
+        return Ok(Reached { log, ..here });
     }
+    let end = s.sized(here, size)?;
+    let log = hold(
+        table,
+        log,
+        Kind::SizedBody,
+        from.at,
+        end - from.at,
+        encoding,
+    )?;
+    Ok(Reached { at: end, log })
 }

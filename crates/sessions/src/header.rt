@@ -1,81 +1,68 @@
 // A mail: its header, and what follows it. Ports `header` and `read_mail` of common.rs.
-ghost use Rattle.std.specs.Prelude.{◌+◌, ◌≤◌, [], length};
+ghost use Rattle.std.specs.Prelude.{◌≤◌, [], length};
 ghost use Rattle.fields.specs.Common.{unknown};
 ghost use Rattle.reads.specs.Clauses.{Begins};
 ghost use Rattle.rules.specs.Mail.{after_mail};
 ghost use Rattle.rules.specs.Phases.{head, then};
-ghost use Rattle.rules.specs.Sessions.{limit};
 ghost use Rattle.sessions.specs.Walks.{Walks, Headers};
 
 use crate::body::plain_mail;
-use crate::multi::multi_body;
-use crate::walks::{Boundary, Walk};
-use events::{Encoding, HEADER_LINE, Log};
-use fields::common::{Bdry, Scan};
-use reads::{Noted, Read, Stop, line, note, stopped};
+use crate::buffer::Buffer;
+use crate::multi::{Level, multi_body};
+use crate::walks::{Reached, Walk};
+use events::{Encoding, Kind};
+use fields::common::{Scan, scan_line};
+use reads::Stop;
 use rules::Mail;
 
 // Eight levels, the outermost being one.
 const INNER_LEVELS: usize = 7;
 
-// The scan, the place behind the blank line in the part that was handed over; or the session's end.
+// What a header says, and what comes behind it.
 #[derive(Clone, Copy)]
-pub enum Headed {
-    Went(Scan, usize, Log),
-    Stopped(Stop),
+pub struct Headed {
+    pub known: Scan,
+    pub to: Reached,
 }
 
-pub fn read_mail(s: &[u8], at: usize, mail: Mail, table: &mut [u32], log: Log) -> Walk
-    requires { (length s.now ≤ limit) × (at ≤ length s.now) × Begins mail at }
-    ensures { Walks s.now table.old log at (then [] (head mail unknown [])) (after_mail mail) result table.new }
+pub fn read_mail(s: Buffer, from: Reached, mail: Mail, table: &mut [u32]) -> Walk
+    requires { (from.at ≤ length s.bytes.now) × Begins mail from.at }
+    ensures { Walks s.entry.bytes.now table.old from.log from.at (then [] (head mail unknown [])) (after_mail mail) result table.new }
 {
-    match header(&s[at..], at, table, log) {
-        Headed::Stopped(a) => Walk::Stopped(a),
-        Headed::Went(known, n, next) => {
-            let to = at + n;
-            let encoding = known.encoding;
-            let boundary = known.boundary;
-            match boundary {
-                Bdry::Unsupplied => plain_mail(s, to, mail, encoding, table, next),
-                Bdry::Of(o, len) => {
-                    let b = Boundary { at: at + o, len };
-                    multi_body(s, to, b, b, INNER_LEVELS, mail, table, next)
-                }
-            }
+    let Headed { known, to } = header(s, from, table)?;
+    match known.boundary {
+        None => plain_mail(s, to, mail, known.encoding, table),
+        Some(b) => {
+            let level = Level {
+                mail,
+                bdry: b,
+                outer: b,
+                left: INNER_LEVELS,
+            };
+            multi_body(s, to, level, table)
         }
     }
 }
 
-// The lines up to a line of exactly CRLF. h is the buffer from the header's first byte on, which is the session's byte `base`.
-pub fn header(h: &[u8], base: usize, table: &mut [u32], log: Log) -> Headed
-    requires { base + length h.now ≤ limit }
-    ensures { Headers h.now table.old log base result table.new }
+// The lines up to a line of exactly CRLF.
+pub fn header(s: Buffer, from: Reached, table: &mut [u32]) -> Result<Headed, Stop>
+    requires { from.at ≤ length s.bytes.now }
+    ensures { Headers s.entry.bytes.now table.old from.log from.at result table.new }
 {
-    let mut p = 0;
-    let mut n = log;
+    let mut here = from;
     let mut known = Scan {
         encoding: Encoding::Unsaid,
         seen: false,
-        boundary: Bdry::Unsupplied,
+        boundary: None,
     };
     loop {
-        match line(h, p) {
-            Read::Stop(o) => {
-                return Headed::Stopped(stopped(o, base + p, n));
-            }
-            Read::To(e) => match note(table, n, HEADER_LINE, base + p, e - p, Encoding::Unsaid) {
-                Noted::Stopped(a) => {
-                    return Headed::Stopped(a);
-                }
-                Noted::Written(next) => {
-                    if reading::equals(&h[p..e], b"\r\n") {
-                        return Headed::Went(known, e, next);
-                    }
-                    known = fields::common::scan_line(h, p, e, known);
-                    p = e;
-                    n = next;
-                }
-            },
+        let end = s.line(here)?;
+        let log = here.note(table, Kind::HeaderLine, end - here.at, Encoding::Unsaid)?;
+        let to = Reached { at: end, log };
+        if reading::equals(&s.bytes[here.at..end], b"\r\n") {
+            return Ok(Headed { known, to });
         }
+        known = scan_line(s.bytes, here.at, end, known);
+        here = to;
     }
 }

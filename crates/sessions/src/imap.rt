@@ -1,83 +1,55 @@
 // IMAP sessions, the client's side. Ports `c2s_parser_inner`, `append_ok` and `append_mail` of imap.rs.
-ghost use Rattle.std.specs.Prelude.{◌≡◌, [], ◌≤◌, length};
+ghost use Rattle.std.specs.Prelude.{[], ◌≤◌, length};
 ghost use Rattle.rules.specs.Phases.{reads, command, offered, head, then};
-ghost use Rattle.rules.specs.Sessions.{limit, session, settle};
 ghost use Rattle.fields.specs.Common.{unknown};
 ghost use Rattle.rules.specs.declared.Mail.TheVariants.{Imap};
-ghost use Rattle.events.specs.Table.{final_of, no_events};
 ghost use Rattle.sessions.specs.Walks.{Walks, Turns};
 
+use crate::buffer::Buffer;
 use crate::header::read_mail;
-use crate::walks::{Lined, Walk, answer, note_line};
-use events::{Answer, CLIENT_LINE, Log, Outcome};
+use crate::walks::{Reached, Walk};
+use events::{Kind, Outcome};
 use fields::imap::{append, append_size, has_colon};
-use reads::{Read, Two, line, stopped, two_bytes};
+use reads::Two;
 use rules::Mail;
 
-pub fn client(s: &[u8], table: &mut [u32]) -> Answer
-    requires { length s.now ≤ limit }
-    ensures { final_of table.new result ≡ settle table.old no_events (session (reads command) 0 s.now) }
-{
-    let mut p = 0;
-    let mut n = Log { count: 0 };
-    loop {
-        match command(s, p, table, n) {
-            Walk::Stopped(a) => {
-                return answer(a);
-            }
-            Walk::Went(to, next) => {
-                p = to;
-                n = next;
-            }
-        }
-    }
-}
-
 // A command line, and the mail that an append may bring.
-fn command(s: &[u8], at: usize, table: &mut [u32], log: Log) -> Walk
-    requires { (length s.now ≤ limit) × (at ≤ length s.now) }
-    ensures { Turns s.now table.old log at command result table.new }
+#[tactic(auto, using(crate::proofs::StatusTurns::command_stop, crate::proofs::StatusTurns::command_on))]
+pub fn command(s: Buffer, from: Reached, table: &mut [u32]) -> Walk
+    requires { from.at ≤ length s.bytes.now }
+    ensures { Turns s.entry.bytes.now table.old from.log from.at command result table.new }
 {
-    match note_line(s, at, CLIENT_LINE, table, log) {
-        Lined::Stopped(a) => Walk::Stopped(a),
-        Lined::To(end, e, next) => {
-            if append(&s[at..end]) {
-                let size = append_size(&s[at..end]);
-                return append_ok(s, e, size, table, next);
-            }
-            Walk::Went(e, next)
-        }
+    let l = s.note_line(from, Kind::ClientLine, table)?;
+    let said = &s.bytes[from.at..l.clean];
+    if append(said) {
+        return append_ok(s, l.to, append_size(said), table);
     }
+    Ok(l.to)
 }
 
 // A mail follows if the next line, only peeked at, holds a colon.
-fn append_ok(s: &[u8], at: usize, size: u64, table: &mut [u32], log: Log) -> Walk
-    requires { (length s.now ≤ limit) × (at ≤ length s.now) }
-    ensures { Walks s.now table.old log at (then [] (offered size)) (λ p. reads command) result table.new }
+fn append_ok(s: Buffer, from: Reached, size: u64, table: &mut [u32]) -> Walk
+    requires { from.at ≤ length s.bytes.now }
+    ensures { Walks s.entry.bytes.now table.old from.log from.at (then [] (offered size)) (λ p. reads command) result table.new }
 {
-    match line(s, at) {
-        Read::Stop(o) => Walk::Stopped(stopped(o, at, log)),
-        Read::To(e) => {
-            if has_colon(&s[at..e]) {
-                return append_mail(s, at, size, table, log);
-            }
-            Walk::Went(at, log)
-        }
+    let end = s.line(from)?;
+    if has_colon(&s.bytes[from.at..end]) {
+        return append_mail(s, from, size, table);
     }
+    Ok(from)
 }
 
 // A mail of so many bytes, and CRLF.
-fn append_mail(s: &[u8], at: usize, size: u64, table: &mut [u32], log: Log) -> Walk
-    requires { (length s.now ≤ limit) × (at ≤ length s.now) }
-    ensures { Walks s.now table.old log at (then [] (head (Imap size at) unknown [])) (λ p. reads command) result table.new }
+fn append_mail(s: Buffer, from: Reached, size: u64, table: &mut [u32]) -> Walk
+    requires { from.at ≤ length s.bytes.now }
+    ensures { Walks s.entry.bytes.now table.old from.log from.at (then [] (head (Imap size from.at) unknown [])) (λ p. reads command) result table.new }
 {
-    match read_mail(s, at, Mail::Imap(size, at), table, log) {
-        Walk::Stopped(a) => Walk::Stopped(a),
-        Walk::Went(to, n) => match two_bytes(s, to) {
-            Two::Crlf => Walk::Went(to + 2, n),
-            Two::Hyphens => Walk::Stopped(stopped(Outcome::OpenLiteral, to, n)),
-            Two::Other => Walk::Stopped(stopped(Outcome::OpenLiteral, to, n)),
-            Two::Stop(o) => Walk::Stopped(stopped(o, to, n)),
-        },
+    let end = read_mail(s, from, Mail::Imap(size, from.at), table)?;
+    match s.two_bytes(end)? {
+        Two::Crlf => Ok(Reached {
+            at: end.at + 2,
+            ..end
+        }),
+        Two::Hyphens | Two::Other => Err(end.stop(Outcome::OpenLiteral)),
     }
 }

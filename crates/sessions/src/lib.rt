@@ -2,15 +2,19 @@
 #![tactic(auto)]
 
 ghost use Rattle.std.specs.Prelude.{◌≡◌};
-ghost use Rattle.events.specs.Table.{final_of};
-ghost use Rattle.rules.specs.Sessions.{answer_of, smtp_client, smtp_server, pop3_server, imap_client};
+ghost use Rattle.events.specs.Table.{final_of, no_events};
+ghost use Rattle.reads.specs.Clauses.{final_at};
+ghost use Rattle.rules.specs.Phases.{reads};
+ghost use Rattle.rules.specs.Sessions.{answer_of, start_of, session, settle, smtp_client, smtp_server, pop3_server, imap_client};
 
-use crate::walks::answer;
-use events::{Answer, Log, Outcome};
-use reads::stopped;
+use crate::buffer::Buffer;
+use crate::walks::{START, answer, run};
+use events::{Answer, Outcome};
+use reads::Stop;
 use rules::Entry;
 
 mod body;
+mod buffer;
 mod header;
 mod imap;
 mod multi;
@@ -18,19 +22,24 @@ mod pop3;
 mod smtp;
 mod walks;
 
-const LIMIT: usize = 16_777_216;
-
 pub fn dissect(entry: Entry, s: &[u8], table: &mut [u32]) -> Answer
     ensures { final_of table.new result ≡ answer_of entry table.old s.now }
 {
-    if s.len() > LIMIT {
-        return answer(stopped(Outcome::TooLong, 0, Log { count: 0 }));
+    match Buffer::new(s) {
+        Some(bytes) => answer(walk(entry, bytes, table)),
+        None => answer(START.stop(Outcome::TooLong)),
     }
+}
+
+// Each entry from its first phase to the session's end.
+fn walk(entry: Entry, s: Buffer, table: &mut [u32]) -> Stop
+    ensures { final_at table.new result ≡ settle table.old no_events (session (reads (start_of entry)) 0 s.entry.bytes.now) }
+{
     match entry {
         Entry::SmtpClient => smtp::client(s, table),
-        Entry::SmtpServer => smtp::server(s, table),
-        Entry::Pop3Server => pop3::server(s, table),
-        Entry::ImapClient => imap::client(s, table),
+        Entry::SmtpServer => run(s, table, smtp::reply),
+        Entry::Pop3Server => run(s, table, pop3::status),
+        Entry::ImapClient => run(s, table, imap::command),
     }
 }
 

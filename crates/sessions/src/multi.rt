@@ -1,202 +1,136 @@
 // Multiparts: parts inside parts, eight levels deep. Ports `multi_body`, `preamble`, `mime_body` and `epilogue` of common.rs and imap.rs.
-// b is the boundary of the present level, outer the outermost; `levels` are left below the present one.
-ghost use Rattle.std.specs.Prelude.{List, [], ℕ, ◌-◌, ◌≤◌, ◌<◌, length};
+ghost use Rattle.std.specs.Prelude.{◌≤◌, length};
 ghost use Rattle.reads.specs.Clauses.{Begins};
-ghost use Rattle.rules.specs.Mail.{popped};
-ghost use Rattle.rules.specs.Phases.{resting, then};
-ghost use Rattle.rules.specs.Sessions.{limit};
-ghost use Rattle.rules.specs.declared.Mail.{Mail};
-ghost use Rattle.sessions.specs.Walks.{Walks, Lies, MultiBodyIs, PartIs, PreambleIs, ContentIs, MimeBodyIs, EpilogueIs};
+ghost use Rattle.sessions.specs.Walks.{Lies, Stands, MultiBodyIs, PartIs, PreambleIs, ContentIs, MimeBodyIs, EpilogueIs};
 
+use crate::buffer::Buffer;
 use crate::header::{Headed, header};
-use crate::walks::{Boundary, Walk, delimited, went};
-use events::{BODY_START, Encoding, Log, Outcome, PART_BODY};
-use fields::common::Bdry;
-use reads::{
-    Noted, Read, Stop, Two, hold, last_line, less, line, literal_rest, note, sized, stopped,
-    two_bytes,
-};
+use crate::walks::{Reached, Walk};
+use events::{Encoding, Kind, Outcome};
+use reading::Span;
+use reads::{Stop, Two, hold, last_line, literal_rest};
 use rules::Mail;
 
-// A part that was read: another follows, or the multipart was closed; or the session's end.
+// A level of a mail's parts: its boundary, the outermost level's, and how many levels are left below it.
+#[derive(Clone, Copy)]
+pub struct Level {
+    pub mail: Mail,
+    pub bdry: Span,
+    pub outer: Span,
+    pub left: usize,
+}
+
+// Behind a part: another follows, or the multipart was closed.
 #[derive(Clone, Copy)]
 pub enum Parted {
-    Next(usize, Log),
-    Closed(usize, Log),
-    Stopped(Stop),
+    Next(Reached),
+    Closed(Reached),
 }
 
 #[cycle(multi_body_part)]
-pub fn multi_body(
-    s: &[u8],
-    at: usize,
-    b: Boundary,
-    outer: Boundary,
-    levels: usize,
-    mail: Mail,
-    table: &mut [u32],
-    log: Log,
-) -> Walk
-    requires { (length s.now ≤ limit) × (at ≤ length s.now) × Begins mail at × Lies s.now b × Lies s.now outer }
-    ensures { MultiBodyIs s.now table.old log at b outer levels mail result table.new }
+pub fn multi_body(s: Buffer, from: Reached, level: Level, table: &mut [u32]) -> Walk
+    requires { Stands s.bytes.now from.at level }
+    ensures { MultiBodyIs s.entry.bytes.now table.old from.log from.at level result table.new }
 {
-    match preamble(s, at, b, log) {
-        Walk::Stopped(a) => Walk::Stopped(a),
-        Walk::Went(first, c) => {
-            let mut p = first;
-            let mut n = c;
-            loop {
-                match part(s, p, b, outer, levels, mail, table, n) {
-                    Parted::Next(to, next) => {
-                        p = to;
-                        n = next;
-                    }
-                    Parted::Closed(to, next) => {
-                        return epilogue(s, to, outer, mail, next);
-                    }
-                    Parted::Stopped(a) => {
-                        return Walk::Stopped(a);
-                    }
-                }
-            }
+    let mut here = preamble(s, from, level.bdry)?;
+    loop {
+        match part(s, here, level, table)? {
+            Parted::Next(to) => here = to,
+            Parted::Closed(to) => return epilogue(s, to, level.outer, level.mail),
         }
     }
 }
 
 #[cycle(multi_body_part)]
-fn part(
-    s: &[u8],
-    at: usize,
-    b: Boundary,
-    outer: Boundary,
-    levels: usize,
-    mail: Mail,
-    table: &mut [u32],
-    log: Log,
-) -> Parted
-    requires { (length s.now ≤ limit) × (at ≤ length s.now) × Begins mail at × Lies s.now b × Lies s.now outer }
-    ensures { PartIs s.now table.old log at b outer levels mail result table.new }
+fn part(s: Buffer, from: Reached, level: Level, table: &mut [u32]) -> Result<Parted, Stop>
+    requires { Stands s.bytes.now from.at level }
+    ensures { PartIs s.entry.bytes.now table.old from.log from.at level result table.new }
 {
-    match header(&s[at..], at, table, log) {
-        Headed::Stopped(a) => Parted::Stopped(a),
-        Headed::Went(known, n, next) => {
-            let to = at + n;
-            let encoding = known.encoding;
-            let boundary = known.boundary;
-            match boundary {
-                Bdry::Unsupplied => content(s, to, b, encoding, table, next),
-                Bdry::Of(o, len) => {
-                    if levels == 0 {
-                        return Parted::Stopped(stopped(Outcome::TooDeep, to, next));
-                    }
-                    let inner = Boundary { at: at + o, len };
-                    match multi_body(s, to, inner, outer, levels - 1, mail, table, next) {
-                        Walk::Stopped(a) => Parted::Stopped(a),
-                        Walk::Went(p, m) => Parted::Next(p, m),
-                    }
-                }
+    let Headed { known, to } = header(s, from, table)?;
+    match known.boundary {
+        None => content(s, to, level.bdry, known.encoding, table),
+        Some(bdry) => {
+            if level.left == 0 {
+                return Err(to.stop(Outcome::TooDeep));
             }
+            let inner = Level {
+                bdry,
+                left: level.left - 1,
+                ..level
+            };
+            let next = multi_body(s, to, inner, table)?;
+            Ok(Parted::Next(next))
         }
     }
 }
 
-fn preamble(s: &[u8], at: usize, b: Boundary, log: Log) -> Walk
-    requires { (at ≤ length s.now) × Lies s.now b }
-    ensures { PreambleIs s.now log at b result }
+fn preamble(s: Buffer, from: Reached, b: Span) -> Walk
+    requires { (from.at ≤ length s.bytes.now) × Lies s.bytes.now b }
+    ensures { PreambleIs s.entry.bytes.now from.log from.at b result }
 {
-    match delimited(s, at, b) {
-        Read::Stop(o) => Walk::Stopped(stopped(o, at, log)),
-        Read::To(p) => match two_bytes(s, p) {
-            Two::Crlf => Walk::Went(p + 2, log),
-            Two::Hyphens => Walk::Stopped(stopped(Outcome::BadDelimiter, p, log)),
-            Two::Other => Walk::Stopped(stopped(Outcome::BadDelimiter, p, log)),
-            Two::Stop(o) => Walk::Stopped(stopped(o, p, log)),
-        },
+    let end = s.delimited(from, b)?;
+    let here = Reached { at: end, ..from };
+    match s.two_bytes(here)? {
+        Two::Crlf => Ok(Reached {
+            at: end + 2,
+            ..from
+        }),
+        Two::Hyphens | Two::Other => Err(here.stop(Outcome::BadDelimiter)),
     }
 }
 
 // A part's content, and what the two bytes behind it say.
 fn content(
-    s: &[u8],
-    at: usize,
-    b: Boundary,
+    s: Buffer,
+    from: Reached,
+    b: Span,
     encoding: Encoding,
     table: &mut [u32],
-    log: Log,
-) -> Parted
-    requires { (length s.now ≤ limit) × (at ≤ length s.now) × Lies s.now b }
-    ensures { ContentIs s.now table.old log at b encoding result table.new }
+) -> Result<Parted, Stop>
+    requires { (from.at ≤ length s.bytes.now) × Lies s.bytes.now b }
+    ensures { ContentIs s.entry.bytes.now table.old from.log from.at b encoding result table.new }
 {
-    match mime_body(s, at, b, encoding, table, log) {
-        Walk::Stopped(a) => Parted::Stopped(a),
-        Walk::Went(p, n) => match two_bytes(s, p) {
-            Two::Crlf => Parted::Next(p + 2, n),
-            Two::Hyphens => Parted::Closed(p + 2, n),
-            Two::Other => Parted::Stopped(stopped(Outcome::BadDelimiter, p, n)),
-            Two::Stop(o) => Parted::Stopped(stopped(o, p, n)),
-        },
+    let here = mime_body(s, from, b, encoding, table)?;
+    let behind = s.two_bytes(here)?;
+    let to = Reached {
+        at: here.at + 2,
+        ..here
+    };
+    match behind {
+        Two::Crlf => Ok(Parted::Next(to)),
+        Two::Hyphens => Ok(Parted::Closed(to)),
+        Two::Other => Err(here.stop(Outcome::BadDelimiter)),
     }
 }
 
-fn mime_body(
-    s: &[u8],
-    at: usize,
-    b: Boundary,
-    encoding: Encoding,
-    table: &mut [u32],
-    log: Log,
-) -> Walk
-    requires { (length s.now ≤ limit) × (at ≤ length s.now) × Lies s.now b }
-    ensures { MimeBodyIs s.now table.old log at b encoding result table.new }
+fn mime_body(s: Buffer, from: Reached, b: Span, encoding: Encoding, table: &mut [u32]) -> Walk
+    requires { (from.at ≤ length s.bytes.now) × Lies s.bytes.now b }
+    ensures { MimeBodyIs s.entry.bytes.now table.old from.log from.at b encoding result table.new }
 {
-    match note(table, log, BODY_START, at, 0, Encoding::Unsaid) {
-        Noted::Stopped(a) => Walk::Stopped(a),
-        Noted::Written(next) => match delimited(s, at, b) {
-            Read::Stop(o) => Walk::Stopped(stopped(o, at, next)),
-            Read::To(e) => {
-                let size = less(e - at, b.len + 4);
-                went(hold(table, next, PART_BODY, at, size, encoding), e)
-            }
-        },
-    }
+    let log = from.note(table, Kind::BodyStart, 0, Encoding::Unsaid)?;
+    let end = s.delimited(Reached { log, ..from }, b)?;
+    let size = (end - from.at).saturating_sub(b.len + 4);
+    let log = hold(table, log, Kind::PartBody, from.at, size, encoding)?;
+    Ok(Reached { at: end, log })
 }
 
-// Lines behind a close, up to one that ends the skipping.
-fn epilogue(s: &[u8], at: usize, outer: Boundary, mail: Mail, log: Log) -> Walk
-    requires { (length s.now ≤ limit) × (at ≤ length s.now) × Begins mail at × Lies s.now outer }
-    ensures { EpilogueIs s.now log at outer mail result }
+// Lines behind a close, up to one that ends the skipping; of a literal that has less left than the outermost boundary is long, just the rest.
+fn epilogue(s: Buffer, from: Reached, outer: Span, mail: Mail) -> Walk
+    requires { (from.at ≤ length s.bytes.now) × Begins mail from.at × Lies s.bytes.now outer }
+    ensures { EpilogueIs s.entry.bytes.now from.log from.at outer mail result }
 {
-    let from = outer.at;
-    let to = outer.at + outer.len;
-    let mut p = at;
+    let mut here = from;
     loop {
-        let rest = literal_rest(mail, p);
-        if 0 < rest {
-            if rest < outer.len as u64 {
-                return skip_rest(s, p, rest, log);
-            }
+        let rest = literal_rest(mail, here.at);
+        if 0 < rest && rest < outer.len as u64 {
+            let end = s.sized(here, rest)?;
+            return Ok(Reached { at: end, ..here });
         }
-        match line(s, p) {
-            Read::Stop(o) => {
-                return Walk::Stopped(stopped(o, p, log));
-            }
-            Read::To(e) => {
-                if last_line(&s[p..e], &s[from..to], mail) {
-                    return Walk::Went(e, log);
-                }
-                p = e;
-            }
+        let end = s.line(here)?;
+        let to = Reached { at: end, ..here };
+        if last_line(&s.bytes[here.at..end], outer.of(s.bytes), mail) {
+            return Ok(to);
         }
-    }
-}
-
-// Just the rest of a literal.
-fn skip_rest(s: &[u8], at: usize, n: u64, log: Log) -> Walk
-    requires { (at ≤ length s.now) × (0 < n) }
-    ensures { (m : Mail) (b : List ℕ) (os : List (List ℕ)) (t : List ℕ) → Walks s.now t log at (then [] (resting m b os (n - 1))) (popped m os) result t }
-{
-    match sized(s, at, n) {
-        Read::Stop(o) => Walk::Stopped(stopped(o, at, log)),
-        Read::To(e) => Walk::Went(e, log),
+        here = to;
     }
 }

@@ -3,189 +3,161 @@ ghost use Rattle.std.specs.Prelude.{◌≡◌, List, [], ℕ, ◌≤◌, length}
 ghost use Rattle.fields.specs.Common.{part};
 ghost use Rattle.fields.specs.Smtp.{rcpt_to};
 ghost use Rattle.rules.specs.Phases.{reads, hello, second, user, sender, seeking, recipient, reply, head, then};
-ghost use Rattle.rules.specs.Sessions.{limit, session, settle};
+ghost use Rattle.rules.specs.Sessions.{session, settle};
 ghost use Rattle.rules.specs.Smtp.{tried, by_recipient};
-ghost use Rattle.events.specs.Table.{final_of, no_events};
-ghost use Rattle.sessions.specs.Walks.{Walks};
+ghost use Rattle.rules.specs.Mail.{after_mail};
+ghost use Rattle.events.specs.Table.{no_events};
+ghost use Rattle.reads.specs.Clauses.{final_at};
+ghost use Rattle.sessions.specs.Walks.{Walks, Turns};
 ghost use Rattle.fields.specs.Common.{unknown};
 ghost use Rattle.rules.specs.declared.Mail.TheVariants.{Smtp};
 
+use crate::buffer::Buffer;
 use crate::header::read_mail;
-use crate::walks::{Lined, Walk, answer, note_line, went};
-use events::{Answer, Encoding, Log, Outcome, PASSWORD, RECIPIENT, SENDER, SERVER_LINE, USER};
+use crate::walks::{Reached, START, Walk};
+use events::{Encoding, Kind, Outcome};
 use fields::smtp::{
-    Address, Second, is_data, is_mail_from, mail_from, rcpt_to, second_line, starts_with_helo,
+    Second, is_data, is_mail_from, mail_from, rcpt_to, second_line, starts_with_helo,
 };
-use reads::{Clean, Read, clean_line, line, note, stopped};
+use reads::{CleanLine, Stop};
 use rules::Mail;
 
-pub fn client(s: &[u8], table: &mut [u32]) -> Answer
-    requires { length s.now ≤ limit }
-    ensures { final_of table.new result ≡ settle table.old no_events (session (reads hello) 0 s.now) }
+pub fn client(s: Buffer, table: &mut [u32]) -> Stop
+    ensures { final_at table.new result ≡ settle table.old no_events (session (reads hello) 0 s.entry.bytes.now) }
 {
-    let none = Log { count: 0 };
-    match hello(s, none) {
-        Walk::Stopped(a) => answer(a),
-        Walk::Went(second, k) => match envelope(s, second, table, k) {
-            Walk::Stopped(a) => answer(a),
-            Walk::Went(first, n) => match multi_rcpt_to(s, first, table, n) {
-                Walk::Stopped(a) => answer(a),
-                Walk::Went(head, m) => match read_mail(s, head, Mail::Smtp, table, m) {
-                    Walk::Stopped(a) => answer(a),
-                    Walk::Went(to, all) => answer(stopped(Outcome::Done, to, all)),
-                },
-            },
-        },
+    match one_mail(s, table) {
+        Ok(end) => end.stop(Outcome::Done),
+        Err(a) => a,
     }
+}
+
+// An envelope, and its mail.
+fn one_mail(s: Buffer, table: &mut [u32]) -> Walk
+    ensures { Walks s.entry.bytes.now table.old no_events 0 (then [] hello) (after_mail Smtp) result table.new }
+{
+    let second = hello(s)?;
+    let first = envelope(s, second, table)?;
+    let head = multi_rcpt_to(s, first, table)?;
+    read_mail(s, head, Mail::Smtp, table)
 }
 
 // The first line: HELO or EHLO.
-fn hello(s: &[u8], log: Log) -> Walk
-    requires { length s.now ≤ limit }
-    ensures { (t : List ℕ) → Walks s.now t log 0 (then [] hello) (λ p. reads second) result t }
+fn hello(s: Buffer) -> Walk
+    ensures { (t : List ℕ) → Walks s.entry.bytes.now t no_events 0 (then [] hello) (λ p. reads second) result t }
 {
-    match line(s, 0) {
-        Read::Stop(o) => Walk::Stopped(stopped(o, 0, log)),
-        Read::To(e) => {
-            if starts_with_helo(&s[..e]) {
-                return Walk::Went(e, log);
-            }
-            Walk::Stopped(stopped(Outcome::NoHello, 0, log))
-        }
+    let end = s.line(START)?;
+    if starts_with_helo(&s.bytes[..end]) {
+        return Ok(Reached { at: end, ..START });
     }
+    Err(START.stop(Outcome::NoHello))
 }
 
 // From the second line up to the one that is tried as sender.
-fn envelope(s: &[u8], at: usize, table: &mut [u32], log: Log) -> Walk
-    requires { (length s.now ≤ limit) × (at ≤ length s.now) }
-    ensures { Walks s.now table.old log at (then [] second) (λ p. reads recipient) result table.new }
+fn envelope(s: Buffer, from: Reached, table: &mut [u32]) -> Walk
+    requires { from.at ≤ length s.bytes.now }
+    ensures { Walks s.entry.bytes.now table.old from.log from.at (then [] second) (λ p. reads recipient) result table.new }
 {
-    match clean_line(s, at) {
-        Clean::Stop(o) => Walk::Stopped(stopped(o, at, log)),
-        Clean::To(end, e) => match second_line(&s[at..end]) {
-            Second::StartTls => Walk::Stopped(stopped(Outcome::StartTls, at, log)),
-            Second::AuthLogin => login(s, e, table, log),
-            Second::MailFrom => tried(s, at, end, e, table, log),
-            Second::Other => read_to_from(s, e, table, log),
-        },
+    let l = s.clean_line(from)?;
+    let next = Reached { at: l.end, ..from };
+    match second_line(&s.bytes[from.at..l.clean]) {
+        Second::StartTls => Err(from.stop(Outcome::StartTls)),
+        Second::AuthLogin => login(s, next, table),
+        Second::MailFrom => tried(s, from, l, table),
+        Second::Other => read_to_from(s, next, table),
     }
 }
 
-// The line from `at` up to `end`, tried as sender; reading goes on at `to`.
-fn tried(s: &[u8], at: usize, end: usize, to: usize, table: &mut [u32], log: Log) -> Walk
-    requires { (length s.now ≤ limit) × (at ≤ end) × (end ≤ to) × (to ≤ length s.now) }
-    ensures { Walks s.now table.old log to (tried at (part s.now at end)) (λ p. reads recipient) result table.new }
+// The line l at `from`, tried as sender; reading goes on behind it.
+#[tactic(auto, using(reads::proofs::Addresses::from_room, crate::proofs::SmtpTurns::tried_none, crate::proofs::SmtpTurns::tried_full, crate::proofs::SmtpTurns::tried_some))]
+fn tried(s: Buffer, from: Reached, l: CleanLine, table: &mut [u32]) -> Walk
+    requires { (from.at ≤ l.clean) × (l.clean ≤ l.end) × (l.end ≤ length s.bytes.now) }
+    ensures { Walks s.entry.bytes.now table.old from.log l.end (tried from.at (part s.entry.bytes.now from.at l.clean)) (λ p. reads recipient) result table.new }
 {
-    match mail_from(&s[at..end]) {
-        Address::Missing => Walk::Went(to, log),
-        Address::Given(o, n) => went(note(table, log, SENDER, at + o, n, Encoding::Unsaid), to),
-    }
+    let Some(a) = mail_from(&s.bytes[from.at..l.clean]) else {
+        return Ok(Reached { at: l.end, ..from });
+    };
+    let there = Reached {
+        at: from.at + a.at,
+        ..from
+    };
+    let log = there.note(table, Kind::Sender, a.len, Encoding::Unsaid)?;
+    Ok(Reached { at: l.end, log })
 }
 
 // User line, password line, and one line tried as sender.
-fn login(s: &[u8], at: usize, table: &mut [u32], log: Log) -> Walk
-    requires { (length s.now ≤ limit) × (at ≤ length s.now) }
-    ensures { Walks s.now table.old log at (then [] user) (λ p. reads recipient) result table.new }
+fn login(s: Buffer, from: Reached, table: &mut [u32]) -> Walk
+    requires { from.at ≤ length s.bytes.now }
+    ensures { Walks s.entry.bytes.now table.old from.log from.at (then [] user) (λ p. reads recipient) result table.new }
 {
-    match note_line(s, at, USER, table, log) {
-        Lined::Stopped(a) => Walk::Stopped(a),
-        Lined::To(_, pass, n) => match note_line(s, pass, PASSWORD, table, n) {
-            Lined::Stopped(a) => Walk::Stopped(a),
-            Lined::To(_, from, m) => sender(s, from, table, m),
-        },
-    }
+    let user = s.note_line(from, Kind::User, table)?;
+    let pass = s.note_line(user.to, Kind::Password, table)?;
+    sender(s, pass.to, table)
 }
 
-fn sender(s: &[u8], at: usize, table: &mut [u32], log: Log) -> Walk
-    requires { (length s.now ≤ limit) × (at ≤ length s.now) }
-    ensures { Walks s.now table.old log at (then [] sender) (λ p. reads recipient) result table.new }
+fn sender(s: Buffer, from: Reached, table: &mut [u32]) -> Walk
+    requires { from.at ≤ length s.bytes.now }
+    ensures { Walks s.entry.bytes.now table.old from.log from.at (then [] sender) (λ p. reads recipient) result table.new }
 {
-    match clean_line(s, at) {
-        Clean::Stop(o) => Walk::Stopped(stopped(o, at, log)),
-        Clean::To(end, e) => tried(s, at, end, e, table, log),
-    }
+    let l = s.clean_line(from)?;
+    tried(s, from, l, table)
 }
 
 // Lines up to one that begins MAIL FROM:, and that is tried.
-fn read_to_from(s: &[u8], at: usize, table: &mut [u32], log: Log) -> Walk
-    requires { (length s.now ≤ limit) × (at ≤ length s.now) }
-    ensures { Walks s.now table.old log at (then [] seeking) (λ p. reads recipient) result table.new }
+fn read_to_from(s: Buffer, from: Reached, table: &mut [u32]) -> Walk
+    requires { from.at ≤ length s.bytes.now }
+    ensures { Walks s.entry.bytes.now table.old from.log from.at (then [] seeking) (λ p. reads recipient) result table.new }
 {
-    let mut p = at;
+    let mut here = from;
     loop {
-        match clean_line(s, p) {
-            Clean::Stop(o) => {
-                return Walk::Stopped(stopped(o, p, log));
-            }
-            Clean::To(end, e) => {
-                if is_mail_from(&s[p..end]) {
-                    return tried(s, p, end, e, table, log);
-                }
-                p = e;
-            }
+        let l = s.clean_line(here)?;
+        if is_mail_from(&s.bytes[here.at..l.clean]) {
+            return tried(s, here, l, table);
         }
+        here = Reached { at: l.end, ..here };
     }
 }
 
 // Recipients, up to DATA.
-fn multi_rcpt_to(s: &[u8], at: usize, table: &mut [u32], log: Log) -> Walk
-    requires { (length s.now ≤ limit) × (at ≤ length s.now) }
-    ensures { Walks s.now table.old log at (then [] recipient) (λ p. reads (head Smtp unknown [])) result table.new }
+fn multi_rcpt_to(s: Buffer, from: Reached, table: &mut [u32]) -> Walk
+    requires { from.at ≤ length s.bytes.now }
+    ensures { Walks s.entry.bytes.now table.old from.log from.at (then [] recipient) (λ p. reads (head Smtp unknown [])) result table.new }
 {
-    let mut p = at;
-    let mut n = log;
+    let mut here = from;
     loop {
-        match clean_line(s, p) {
-            Clean::Stop(o) => {
-                return Walk::Stopped(stopped(o, p, n));
-            }
-            Clean::To(end, e) => {
-                if is_data(&s[p..end]) {
-                    return Walk::Went(e, n);
-                }
-                match recipient(s, p, end, e, table, n) {
-                    Walk::Stopped(a) => {
-                        return Walk::Stopped(a);
-                    }
-                    Walk::Went(to, next) => {
-                        p = to;
-                        n = next;
-                    }
-                }
-            }
+        let l = s.clean_line(here)?;
+        if is_data(&s.bytes[here.at..l.clean]) {
+            return Ok(Reached { at: l.end, ..here });
         }
+        here = recipient(s, here, l, table)?;
     }
 }
 
-// The line from `at` up to `end` as a recipient; reading goes on at `to`.
-fn recipient(s: &[u8], at: usize, end: usize, to: usize, table: &mut [u32], log: Log) -> Walk
-    requires { (length s.now ≤ limit) × (at ≤ end) × (end ≤ to) × (to ≤ length s.now) }
-    ensures { Walks s.now table.old log to (by_recipient at (rcpt_to (part s.now at end))) (λ p. reads recipient) result table.new }
+// The line l at `from` as a recipient; reading goes on behind it.
+#[tactic(auto, using(reads::proofs::Addresses::to_room, crate::proofs::SmtpTurns::recipient_full, crate::proofs::SmtpTurns::recipient_some))]
+fn recipient(s: Buffer, from: Reached, l: CleanLine, table: &mut [u32]) -> Walk
+    requires { (from.at ≤ l.clean) × (l.clean ≤ l.end) × (l.end ≤ length s.bytes.now) }
+    ensures { Walks s.entry.bytes.now table.old from.log l.end (by_recipient from.at (rcpt_to (part s.entry.bytes.now from.at l.clean))) (λ p. reads recipient) result table.new }
 {
-    match rcpt_to(&s[at..end]) {
-        Address::Missing => Walk::Stopped(stopped(Outcome::NoRecipient, at, log)),
-        Address::Given(o, n) => went(note(table, log, RECIPIENT, at + o, n, Encoding::Unsaid), to),
-    }
+    let Some(a) = rcpt_to(&s.bytes[from.at..l.clean]) else {
+        return Err(from.stop(Outcome::NoRecipient));
+    };
+    let there = Reached {
+        at: from.at + a.at,
+        ..from
+    };
+    let log = there.note(table, Kind::Recipient, a.len, Encoding::Unsaid)?;
+    Ok(Reached { at: l.end, log })
 }
 
-pub fn server(s: &[u8], table: &mut [u32]) -> Answer
-    requires { length s.now ≤ limit }
-    ensures { final_of table.new result ≡ settle table.old no_events (session (reads reply) 0 s.now) }
+// A line of a server's session, which 221 ends.
+#[tactic(auto, using(crate::proofs::SmtpTurns::reply_stop, crate::proofs::SmtpTurns::reply_on))]
+pub fn reply(s: Buffer, from: Reached, table: &mut [u32]) -> Walk
+    requires { from.at ≤ length s.bytes.now }
+    ensures { Turns s.entry.bytes.now table.old from.log from.at reply result table.new }
 {
-    let mut p = 0;
-    let mut n = Log { count: 0 };
-    loop {
-        match note_line(s, p, SERVER_LINE, table, n) {
-            Lined::Stopped(a) => {
-                return answer(a);
-            }
-            Lined::To(end, e, next) => {
-                if reading::starts_with(&s[p..end], b"221") {
-                    return answer(stopped(Outcome::Done, e, next));
-                }
-                p = e;
-                n = next;
-            }
-        }
+    let l = s.note_line(from, Kind::ServerLine, table)?;
+    if reading::starts_with(&s.bytes[from.at..l.clean], b"221") {
+        return Err(l.to.stop(Outcome::Done));
     }
+    Ok(l.to)
 }

@@ -5,6 +5,10 @@ use mathlib.Core.Bool.{Bool, true, false, ◌&&◌}
 use mathlib.Core.List.{List}
 use Prim.Native.Nat.{ℕ, zero, suc, ◌+◌, ◌-◌, ◌*◌, ◌≤◌, ◌<◌}
 use native.Mathlib.Omega.{arith}
+use Rattle.std.specs.Bool.{MatchBool}
+use Rattle.std.specs.List.{AllWithin, HoldsAt, range_with_len}
+use Rattle.std.proofs.lemmas.List.FromFn.{length-range_with_len, get_or-range_with_len}
+use Rattle.rules.proofs.Strict.{and_off}
 use lib.Dec.{eqb, leb}
 use lib.ListN.{length, get_or, replicate}
 use borrow.Author.Tests.{lt-ltb, le-ltb, le-leb, lt-leb, leb-true, eqb-true, eqb-false}
@@ -128,21 +132,23 @@ unfolding short_to
 by_short k zero h = refl
 by_short k (suc n) h = rw (le-leb (get_or k (n * 72) 0) 71 (h n (omega arith))) (by_short k n (λ j g. h j (omega arith)))
 
--- from the last copy down
-pub short_step : (k : List ℕ) (i : ℕ) → 0 < i → get_or k ((i - 1) * 72) 0 ≤ 71 → short_to k i ≡ short_to k (i - 1)
+short_not : (k : List ℕ) (n j : ℕ) → j < n → 71 < get_or k (j * 72) 0 → short_to k n ≡ false
 unfolding short_to
-short_step k zero g h = absurd (omega arith)
-short_step k (suc i) g h = let z : suc i - 1 ≡ i = omega arith in rw (z, le-leb (get_or k (i * 72) 0) 71 (rw z at h))
+short_not k zero j g h = absurd (omega arith)
+short_not k (suc n) j g h =
+    by_test (eqb j n)
+    (λ t. let e : j ≡ n = eqb-true j n t in rw (lt-leb (get_or k (n * 72) 0) 71 (rw e at h)))
+    (λ f. rw (short_not k n j (below (eqb-false j n f) g) h) (and_off (leb (get_or k (n * 72) 0) 71)))
 
-pub short_not : (k : List ℕ) (i : ℕ) → 0 < i → 71 < get_or k ((i - 1) * 72) 0 → short_to k i ≡ false
-unfolding short_to
-short_not k zero g h = absurd (omega arith)
-short_not k (suc i) g h = let z : suc i - 1 ≡ i = omega arith in rw (lt-leb (get_or k (i * 72) 0) 71 (rw z at h))
+number : (n j : ℕ) → j < n → get_or (range_with_len 0 n) j 0 ≡ j
+number n j h = omega (arith, get_or-range_with_len 0 n j 0 h)
 
-pub short_none : (k : List ℕ) (i : ℕ) → i ≤ 0 → short_to k i ≡ true
-unfolding short_to
-short_none k zero h = refl
-short_none k (suc i) h = absurd (omega arith)
+-- each of n copies is short, or one is not
+pub short_all : (k : List ℕ) (n : ℕ) (r : Bool)
+    → MatchBool r (AllWithin (λ i. get_or k (i * 72) 0 ≤ 71) (range_with_len 0 n) 0 (length (range_with_len 0 n)))
+    ((j : ℕ) × (j < length (range_with_len 0 n)) × HoldsAt (λ i. 71 < get_or k (i * 72) 0) (range_with_len 0 n) j) → r ≡ short_to k n
+short_all k n true h = sym (by_short k n (λ j g. rw (number n j g) at (h j 0 (omega arith) (omega (arith, length-range_with_len 0 n)))))
+short_all k n false (j, g, h) = let b : j < n = omega (arith, length-range_with_len 0 n) in sym (short_not k n j b (rw (number n j b) at (h 0)))
 
 -- ---- a session is begun
 pub zeros : (n j : ℕ) → ◌≡◌ {A = ℕ} (get_or (replicate n 0) j 0) 0

@@ -76,23 +76,23 @@ fn first_phase(entry: Entry) -> Phase
 pub fn show(session: Session, w: &[u8], table: &mut [u32]) -> Shown
     ensures { Shows session w.now table.old result table.new }
 {
-    let settings = session.settings;
-    let phase = session.phase;
-    let log = session.log;
-    let mut boundaries = session.boundaries;
-    let seen = show_lent(settings, phase, session.at, log, &mut boundaries, w, table);
-    let phase = seen.phase;
-    let log = seen.log;
-    let answer = seen.answer;
+    let Session {
+        settings,
+        phase,
+        at,
+        log,
+        mut boundaries,
+    } = session;
+    let seen = show_lent(settings, phase, at, log, &mut boundaries, w, table);
     Shown {
         session: Session {
             settings,
-            phase,
+            phase: seen.phase,
             at: seen.at,
-            log,
+            log: seen.log,
             boundaries,
         },
-        answer,
+        answer: seen.answer,
         taken: seen.taken,
     }
 }
@@ -122,12 +122,11 @@ pub fn show_lent(
         return answered(here, at);
     }
     if LIMIT - at < w.len() {
-        let phase = Phase::Over(Outcome::TooLong, 0);
+        let over = Phase::Over(Outcome::TooLong, 0);
         return answered(
             Spot {
-                phase,
-                taken: 0,
-                log,
+                phase: over,
+                ..here
             },
             at,
         );
@@ -140,18 +139,15 @@ pub fn show_lent(
 fn no_session(spot: Spot, at: usize) -> Seen
     ensures { (set : Settings) (k : List ℕ) → Left set spot at k (shown_with set result k) }
 {
-    let phase = spot.phase;
-    let log = spot.log;
-    let answer = Answer {
-        result: Outcome::NoSession,
-        place: 0,
-        count: 0,
-    };
     Seen {
-        phase,
+        phase: spot.phase,
         at,
-        log,
-        answer,
+        log: spot.log,
+        answer: Answer {
+            result: Outcome::NoSession,
+            place: 0,
+            count: 0,
+        },
         taken: 0,
     }
 }
@@ -161,16 +157,14 @@ fn answered(spot: Spot, base: usize) -> Seen
     requires { base + spot.taken ≤ limit }
     ensures { (set : Settings) (k : List ℕ) → Answers set spot base k (shown_with set result k) }
 {
-    let phase = spot.phase;
-    let log = spot.log;
-    let at = base + spot.taken;
-    let answer = answer_of(phase, at, log);
+    let Spot { phase, taken, log } = spot;
+    let at = base + taken;
     Seen {
         phase,
         at,
         log,
-        answer,
-        taken: spot.taken,
+        answer: answer_of(phase, at, log),
+        taken,
     }
 }
 
@@ -184,9 +178,9 @@ fn answer_of(phase: Phase, at: usize, log: Log) -> Answer
             place,
             count: log.count,
         },
-        Phase::Literal(_, from, _) => waiting(from, log),
-        Phase::Preamble(_, _, from, _) => waiting(from, log),
-        Phase::Content(_, _, _, from, _) => waiting(from, log),
+        Phase::Literal(_, from, _)
+        | Phase::Preamble(_, _, from, _)
+        | Phase::Content(_, _, _, from, _) => waiting(from, log),
         _ => waiting(at, log),
     }
 }
@@ -201,13 +195,11 @@ fn waiting(place: usize, log: Log) -> Answer
     }
 }
 
+#[tactic(auto, using(crate::proofs::Arms::reads_on), unfolding(phases::specs::Phasing::state_of, windows::specs::Windows::over))]
 fn is_over(phase: Phase) -> bool
     ensures { (k : List ℕ) → result ≡ over (state_of k phase) }
 {
-    match phase {
-        Phase::Over(_, _) => true,
-        _ => false,
-    }
+    matches!(phase, Phase::Over(_, _))
 }
 
 // ---- the test of a record: its numbers are such as `begin` and `show` give
@@ -215,68 +207,46 @@ fn is_over(phase: Phase) -> bool
 fn sound(phase: Phase, at: usize, boundaries: &[u8; 648]) -> bool
     ensures { result ≡ (leb at limit && (short_to boundaries.now 9 && fits_by phase at)) }
 {
-    if LIMIT < at {
-        return false;
-    }
-    if !short_slots(boundaries) {
-        return false;
-    }
-    phase_fits(phase, at)
+    at <= LIMIT && short_slots(boundaries) && phase_fits(phase, at)
 }
 
 // No copy is longer than it may be.
 fn short_slots(boundaries: &[u8; 648]) -> bool
     ensures { result ≡ short_to boundaries.now 9 }
 {
-    let mut i = SLOTS;
-    while 0 < i {
-        i -= 1;
-        if LONGEST < boundaries[i * SLOT] {
-            return false;
-        }
-    }
-    true
+    (0..SLOTS).all(|i| boundaries[i * SLOT] <= LONGEST)
 }
 
+#[tactic(auto, using(crate::proofs::Arms::holds_none), unfolding(crate::specs::Tapping::fits_by))]
 fn phase_fits(phase: Phase, at: usize) -> bool
     ensures { result ≡ fits_by phase at }
 {
     match phase {
         Phase::Head(mail, _, level) => at_level(level, 8, mail, at),
         Phase::Literal(_, from, _) => from <= at,
-        Phase::Preamble(mail, level, from, _) => from_level(from, level, mail, at),
-        Phase::Opened(mail, level) => at_level(level, 7, mail, at),
-        Phase::Content(mail, _, level, from, _) => from_level(from, level, mail, at),
-        Phase::Between(mail, level) => at_level(level, 7, mail, at),
-        Phase::Skipping(mail, level) => at_level(level, 7, mail, at),
-        Phase::Resting(mail, level, _) => at_level(level, 7, mail, at),
+        Phase::Preamble(mail, level, from, _) | Phase::Content(mail, _, level, from, _) => {
+            from <= at && at_level(level, 7, mail, at)
+        }
+        Phase::Opened(mail, level)
+        | Phase::Between(mail, level)
+        | Phase::Skipping(mail, level)
+        | Phase::Resting(mail, level, _) => at_level(level, 7, mail, at),
         _ => true,
     }
-}
-
-fn from_level(from: usize, level: usize, mail: Mail, at: usize) -> bool
-    ensures { result ≡ (leb from at && (leb level 7 && begun_by mail at)) }
-{
-    if at < from {
-        return false;
-    }
-    at_level(level, 7, mail, at)
 }
 
 fn at_level(level: usize, most: usize, mail: Mail, at: usize) -> bool
     ensures { result ≡ (leb level most && begun_by mail at) }
 {
-    if most < level {
-        return false;
-    }
-    begun_by(mail, at)
+    level <= most && begun_by(mail, at)
 }
 
+#[tactic(auto, unfolding(crate::specs::Tapping::begun_by))]
 fn begun_by(mail: Mail, at: usize) -> bool
     ensures { result ≡ begun_by mail at }
 {
     match mail {
+        Mail::Smtp | Mail::Pop3 => true,
         Mail::Imap(_, start) => start <= at,
-        _ => true,
     }
 }

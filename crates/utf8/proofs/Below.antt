@@ -12,8 +12,7 @@ use Rattle.classes.specs.Classes.{is_white}
 use Rattle.reading.proofs.Places.{by_test}
 use Rattle.reading.proofs.Words.{left_at}
 use Rattle.utf8.specs.Utf8.{octets_of, is_space, opened, character, onto, behind, characters, size, is_utf8, dark_end}
-use Rattle.utf8.specs.declared.Decoded.{Decoded}
-use Rattle.utf8.specs.declared.Decoded.TheVariants.{Of, Broken}
+use Rattle.std.specs.Prelude.{Option, Some, None}
 use Rattle.utf8.proofs.Characters.{octets_some, octets_below, own_octet, long_octets}
 
 pub unlike : {a : Bool} → a ≡ true → a ≡ false → ⊥
@@ -82,7 +81,7 @@ module _ (b k : ℕ) (l : List ℕ) (e : ℕ) (t : Trails k l e) where
   trails_on = record { inside = omega (arith, t.inside); white = white_on; dark = dark_on }
 
 -- a character in front, whole
-module _ (b : ℕ) (l : List ℕ) (c : ℕ) (e : character (b ∷ l) ≡ Of c) where
+module _ (b : ℕ) (l : List ℕ) (c : ℕ) (e : character (b ∷ l) ≡ Some c) where
   high : ltb b 0x80 ≡ false → (p : ℕ) → p < octets_of c → 0x80 ≤ get_or (b ∷ l) p 0
   high f zero h = ltb-false b 0x80 f
   high f (suc p) h = (long_octets b l c e f).tails p (omega arith)
@@ -125,17 +124,17 @@ module _ (b : ℕ) (l : List ℕ) (c : ℕ) (e : character (b ∷ l) ≡ Of c) w
   trails_one d t false true w z = one_dark d (λ n. w) t
   trails_one d t false false w z = one_dark d (λ n. w) t
 
-trails_zero : (b : ℕ) (l : List ℕ) (f : Decoded) → character (b ∷ l) ≡ f → ((k : ℕ) → k + size (behind k l) ≡ length l → Trails k l (k + dark_end (behind k l)))
+trails_zero : (b : ℕ) (l : List ℕ) (f : Option ℕ) → character (b ∷ l) ≡ f → ((k : ℕ) → k + size (behind k l) ≡ length l → Trails k l (k + dark_end (behind k l)))
     → size (onto f (λ (k : ℕ). behind k l)) ≡ suc (length l) → Trails 0 (b ∷ l) (dark_end (onto f (λ (k : ℕ). behind k l)))
 unfolding onto size dark_end
-trails_zero b l (Of c) e i s =
+trails_zero b l (Some c) e i s =
     let k = octets_of c - 1 in
     let d = dark_end (behind k l) in
     let n : suc k ≡ octets_of c = omega (arith, octets_some c) in
     let t : Trails (suc k) (b ∷ l) (suc (k + d)) = trails_on b k l (k + d) (i k (omega (arith, octets_some c))) in
     let u : Trails (octets_of c) (b ∷ l) (octets_of c + d) = trails_same (omega (arith, octets_some c)) (rw n at t) in
     trails_one b l c e d u (is_space c) (eqb d 0) refl refl
-trails_zero b l Broken e i s = absurd (omega arith)
+trails_zero b l None e i s = absurd (omega arith)
 
 pub trails : (k : ℕ) (l : List ℕ) → k + size (behind k l) ≡ length l → Trails k l (k + dark_end (behind k l))
 unfolding behind size dark_end

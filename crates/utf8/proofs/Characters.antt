@@ -13,12 +13,12 @@ use Rattle.reading.proofs.Places.{by_test}
 use Rattle.reading.proofs.Words.{left_at, rest_is, both_true}
 use Rattle.utf8.specs.Utf8.{octets_of, is_scalar, is_tail, lawful, sequence, opened, character, onto, behind, characters}
 use Rattle.utf8.proofs.Sequences.{tail_bits}
-use Rattle.utf8.specs.declared.Decoded.TheVariants.{Of, Broken}
+use Rattle.std.specs.Prelude.{Some, None}
 
-pub of_same : {c d : ℕ} → Of c ≡ Of d → c ≡ d
+pub of_same : {c d : ℕ} → Some c ≡ Some d → c ≡ d
 of_same e = cc
 
-pub broken_not : {P : Type 0} {c : ℕ} → Broken ≡ Of c → P
+pub broken_not : {P : Type 0} {c : ℕ} → None ≡ Some c → P
 broken_not e = absurd (let z : ◌≡◌ {A = ℕ} 0 1 = cc in omega arith)
 
 -- ---- how many octets
@@ -60,7 +60,7 @@ pub record Read (n c d : ℕ) : Type 0 where
   pub takes : octets_of d ≡ n
   pub scalar : is_scalar d ≡ true
 
-pub lawful_read : (n c d : ℕ) → lawful n c ≡ Of d → Read n c d
+pub lawful_read : (n c d : ℕ) → lawful n c ≡ Some d → Read n c d
 unfolding lawful
 lawful_read n c d e =
     by_test (eqb (octets_of c) n && is_scalar c)
@@ -81,7 +81,7 @@ tails_on : (b k : ℕ) (l : List ℕ) → 0x80 ≤ b → ((q : ℕ) → q < k �
 tails_on b k l h t zero g = h
 tails_on b k l h t (suc q) g = t q (omega arith)
 
-pub sequence_fits : (n k c d : ℕ) (l : List ℕ) → sequence n k c l ≡ Of d → Fits n k l d
+pub sequence_fits : (n k c d : ℕ) (l : List ℕ) → sequence n k c l ≡ Some d → Fits n k l d
 unfolding sequence
 sequence_fits n zero c d l e =
     let r = lawful_read n c d e in
@@ -95,7 +95,7 @@ sequence_fits n (suc k) c d (b ∷ l) e =
     (λ t. broken_not (rw t at e))
 
 -- below 128 a character is its octet
-pub own_octet : (b : ℕ) (l : List ℕ) (d : ℕ) → character (b ∷ l) ≡ Of d → ltb b 0x80 ≡ true → b ≡ d
+pub own_octet : (b : ℕ) (l : List ℕ) (d : ℕ) → character (b ∷ l) ≡ Some d → ltb b 0x80 ≡ true → b ≡ d
 unfolding character opened
 own_octet b l d e t = of_same (rw t at e)
 
@@ -103,7 +103,7 @@ fits : (k : ℕ) (l : List ℕ) (d : ℕ) → Fits (suc k) k l d → Fits (octet
 fits k l d s = record { takes = refl; scalar = s.scalar; room = omega (arith, s.takes, s.room); tails = λ q h. s.tails q (omega (arith, s.takes)) }
 
 -- above, all its octets are above 127
-pub long_octets : (b : ℕ) (l : List ℕ) (d : ℕ) → character (b ∷ l) ≡ Of d → ltb b 0x80 ≡ false → Fits (octets_of d) (octets_of d - 1) l d
+pub long_octets : (b : ℕ) (l : List ℕ) (d : ℕ) → character (b ∷ l) ≡ Some d → ltb b 0x80 ≡ false → Fits (octets_of d) (octets_of d - 1) l d
 unfolding character opened
 long_octets b l d e f =
     by_test (ltb b 0xc0) (λ t. broken_not (rw (f, t) at e))
@@ -111,7 +111,7 @@ long_octets b l d e f =
     (λ t₃. by_test (ltb b 0xf0) (λ t. fits 2 l d (sequence_fits 3 2 (b - 0xe0) d l (rw (f, t₂, t₃, t) at e)))
     (λ t₄. by_test (ltb b 0xf8) (λ t. fits 3 l d (sequence_fits 4 3 (b - 0xf0) d l (rw (f, t₂, t₃, t₄, t) at e))) (λ t. broken_not (rw (f, t₂, t₃, t₄, t) at e)))))
 
-pub character_room : (l : List ℕ) (d : ℕ) → character l ≡ Of d → octets_of d ≤ length l
+pub character_room : (l : List ℕ) (d : ℕ) → character l ≡ Some d → octets_of d ≤ length l
 unfolding character
 character_room [] d e = broken_not e
 character_room (b ∷ l) d e =
@@ -120,7 +120,7 @@ character_room (b ∷ l) d e =
     (λ t. omega (arith, (long_octets b l d e t).room))
 
 -- what is read is a character's number
-pub character_scalar : (l : List ℕ) (d : ℕ) → character l ≡ Of d → is_scalar d ≡ true
+pub character_scalar : (l : List ℕ) (d : ℕ) → character l ≡ Some d → is_scalar d ≡ true
 unfolding character is_scalar
 character_scalar [] d e = broken_not e
 character_scalar (b ∷ l) d e =
@@ -132,12 +132,7 @@ character_scalar (b ∷ l) d e =
 
 -- ---- what stands behind
 
-pub character_opened : (l : List ℕ) → 0 < length l → opened (get_or l 0 0) (drop 1 l) ≡ character l
-unfolding character
-character_opened [] h = absurd (omega arith)
-character_opened (b ∷ l) h = refl
-
-pub character_none : (l : List ℕ) → length l ≡ 0 → Broken ≡ character l
+pub character_none : (l : List ℕ) → length l ≡ 0 → None ≡ character l
 unfolding character
 character_none [] h = refl
 character_none (b ∷ l) h = absurd (omega arith)
@@ -156,7 +151,7 @@ module _ (l : List ℕ) (at : ℕ) (h : at < length l) where
   opens : character (get_or l at 0 ∷ drop (at + 1) l) ≡ character rest
   opens = ap character (sym (left_at l at h) ∙ sym (rest_is l at))
 
-  pub character_at : (c : ℕ) → character rest ≡ Of c → characters (drop at l) ≡ c ∷ characters (drop (at + octets_of c) l)
+  pub character_at : (c : ℕ) → character rest ≡ Some c → characters (drop at l) ≡ c ∷ characters (drop (at + octets_of c) l)
   unfolding characters behind onto
   character_at c e =
       let n : (at + 1) + (octets_of c - 1) ≡ at + octets_of c = omega (arith, octets_some c) in
@@ -164,11 +159,14 @@ module _ (l : List ℕ) (at : ℕ) (h : at < length l) where
       let left = drop-drop (octets_of c - 1) (at + 1) l ∙ ap (λ (k : ℕ). drop k l) n in
       ap characters (left_at l at h) ∙ one ∙ ap (λ (cs : List ℕ). c ∷ cs) (behind_is (octets_of c - 1) (drop (at + 1) l) ∙ ap characters left)
 
-  pub character_within : (c : ℕ) → character rest ≡ Of c → at + octets_of c ≤ length l
+  pub character_within : (c : ℕ) → character rest ≡ Some c → at + octets_of c ≤ length l
   character_within c e = omega (arith, character_room (drop at l) c (ap character (sym (rest_is l at)) ∙ e), length-drop at l)
 
-  pub none_at : character rest ≡ Broken → characters (drop at l) ≡ []
+  pub none_at : character rest ≡ None → characters (drop at l) ≡ []
   unfolding characters behind onto
   none_at e =
       let none : characters (get_or l at 0 ∷ drop (at + 1) l) ≡ [] = rw (opens ∙ e) in
       ap characters (left_at l at h) ∙ none
+
+pub some_inside : (l : List ℕ) (at c : ℕ) → character (take (length l - at) (drop at l)) ≡ Some c → at < length l
+some_inside l at c e = omega (arith, octets_some c, character_room (drop at l) c (ap character (sym (rest_is l at)) ∙ e), length-drop at l)

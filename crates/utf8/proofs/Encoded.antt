@@ -11,7 +11,7 @@ use borrow.Author.Tests.{ltb-true, ltb-false, leb-true, leb-false, lt-ltb, le-lt
 use Rattle.reading.proofs.Places.{by_test}
 use Rattle.reading.proofs.Words.{both_true}
 use Rattle.utf8.specs.Utf8.{octets_of, is_scalar, is_tail, lawful, sequence, opened, character}
-use Rattle.utf8.specs.declared.Decoded.TheVariants.{Of}
+use Rattle.std.specs.Prelude.{Some}
 use Rattle.utf8.proofs.Sequences.{tail_bits}
 use Rattle.utf8.proofs.Characters.{of_same, broken_not, lawful_read, octets_one, octets_two, octets_three, octets_four}
 
@@ -37,22 +37,22 @@ unfolding is_scalar
 at_most_last c s = leb-true c 0x10_ffff (both_true _ _ s).0
 
 module _ (c : ℕ) (l : List ℕ) (s : is_scalar c ≡ true) where
-  lawful_is : (n : ℕ) → octets_of c ≡ n → lawful n c ≡ Of c
+  lawful_is : (n : ℕ) → octets_of c ≡ n → lawful n c ≡ Some c
   unfolding lawful
   lawful_is n e = rw (eq-eqb (octets_of c) n e, s)
 
-  one : c ≤ 0x7f → character (c ∷ l) ≡ Of c
+  one : c ≤ 0x7f → character (c ∷ l) ≡ Some c
   unfolding character opened
   one h = rw (lt-ltb c 0x80 (omega arith))
 
-  two : 0x7f < c → c ≤ 0x7ff → character ((0xc0 + c / 64) ∷ tail c ∷ l) ≡ Of c
+  two : 0x7f < c → c ≤ 0x7ff → character ((0xc0 + c / 64) ∷ tail c ∷ l) ≡ Some c
   unfolding character opened sequence
   two g h =
       let b = 0xc0 + c / 64 in
       let n : (b - 0xc0) * 64 + (tail c - 0x80) ≡ c = omega arith in
       rw (le-ltb b 0x80 (omega arith), le-ltb b 0xc0 (omega arith), lt-ltb b 0xe0 (omega arith), tail_is c, n) (lawful_is 2 (octets_two c g h))
 
-  three : 0x7ff < c → c ≤ 0xffff → character ((0xe0 + c / 4096) ∷ tail (c / 64) ∷ tail c ∷ l) ≡ Of c
+  three : 0x7ff < c → c ≤ 0xffff → character ((0xe0 + c / 4096) ∷ tail (c / 64) ∷ tail c ∷ l) ≡ Some c
   unfolding character opened sequence
   three g h =
       let b = 0xe0 + c / 4096 in
@@ -60,7 +60,7 @@ module _ (c : ℕ) (l : List ℕ) (s : is_scalar c ≡ true) where
       rw (le-ltb b 0x80 (omega arith), le-ltb b 0xc0 (omega arith), le-ltb b 0xe0 (omega arith), lt-ltb b 0xf0 (omega arith), tail_is (c / 64), tail_is c, n)
       (lawful_is 3 (octets_three c (omega arith) g h))
 
-  four : 0xffff < c → c ≤ 0x10_ffff → character ((0xf0 + c / 262144) ∷ tail (c / 4096) ∷ tail (c / 64) ∷ tail c ∷ l) ≡ Of c
+  four : 0xffff < c → c ≤ 0x10_ffff → character ((0xf0 + c / 262144) ∷ tail (c / 4096) ∷ tail (c / 64) ∷ tail c ∷ l) ≡ Some c
   unfolding character opened sequence
   four g h =
       let b = 0xf0 + c / 262144 in
@@ -82,7 +82,7 @@ module _ (c : ℕ) (l : List ℕ) (s : is_scalar c ≡ true) where
       )
       (lawful_is 4 (octets_four c (omega arith) (omega arith) g))
 
-  pub read_back : character (encoded c ++ l) ≡ Of c
+  pub read_back : character (encoded c ++ l) ≡ Some c
   unfolding encoded
   read_back =
       by_test (leb c 0x7f) (λ t. rw t (one (leb-true c 0x7f t)))
@@ -130,7 +130,7 @@ last x t d i e =
     let s = tail_bits t i in
     record { others = omega (arith, s.least, s.most); bits = omega (arith, s.least, s.most) }
 
-back_two : (b : ℕ) (l : List ℕ) (d : ℕ) → 0xc0 ≤ b → sequence 2 1 (b - 0xc0) l ≡ Of d → Opens (b ∷ l) d
+back_two : (b : ℕ) (l : List ℕ) (d : ℕ) → 0xc0 ≤ b → sequence 2 1 (b - 0xc0) l ≡ Some d → Opens (b ∷ l) d
 unfolding sequence
 back_two b [] d h e = broken_not e
 back_two b (t ∷ l) d h e =
@@ -142,7 +142,7 @@ back_two b (t ∷ l) d h e =
     rw (r.takes, written_two d r.takes, p, n.bits))
     (λ i. broken_not (rw i at e))
 
-back_three : (b : ℕ) (l : List ℕ) (d : ℕ) → 0xe0 ≤ b → sequence 3 2 (b - 0xe0) l ≡ Of d → Opens (b ∷ l) d
+back_three : (b : ℕ) (l : List ℕ) (d : ℕ) → 0xe0 ≤ b → sequence 3 2 (b - 0xe0) l ≡ Some d → Opens (b ∷ l) d
 unfolding sequence
 back_three b [] d h e = broken_not e
 back_three b (t ∷ []) d h e = by_test (is_tail t) (λ i. broken_not (rw i at e)) (λ i. broken_not (rw i at e))
@@ -158,7 +158,7 @@ back_three b (t ∷ u ∷ l) d h e =
     (λ j. broken_not (rw (i, j) at e)))
     (λ i. broken_not (rw i at e))
 
-back_four : (b : ℕ) (l : List ℕ) (d : ℕ) → 0xf0 ≤ b → sequence 4 3 (b - 0xf0) l ≡ Of d → Opens (b ∷ l) d
+back_four : (b : ℕ) (l : List ℕ) (d : ℕ) → 0xf0 ≤ b → sequence 4 3 (b - 0xf0) l ≡ Some d → Opens (b ∷ l) d
 unfolding sequence
 back_four b [] d h e = broken_not e
 back_four b (t ∷ []) d h e = by_test (is_tail t) (λ i. broken_not (rw i at e)) (λ i. broken_not (rw i at e))
@@ -188,7 +188,7 @@ back_one b l d h e =
     let m : d ≤ 0x7f = omega arith in
     rw (octets_one d m, le-leb d 0x7f m, e)
 
-pub only_written : (l : List ℕ) (d : ℕ) → character l ≡ Of d → Opens l d
+pub only_written : (l : List ℕ) (d : ℕ) → character l ≡ Some d → Opens l d
 unfolding character opened
 only_written [] d e = broken_not e
 only_written (b ∷ l) d e =

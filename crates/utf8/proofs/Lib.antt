@@ -4,4 +4,3 @@ pub mod Below
 pub mod Walks
 pub mod Encoded
 mod Cases
-pub mod Spaces

@@ -5,19 +5,22 @@ use mathlib.Core.Bool.{Bool, true, false, cond, ◌&&◌}
 use mathlib.Core.List.{List, [], ◌∷◌}
 use Prim.Native.Nat.{ℕ, ◌+◌, ◌-◌, ◌≤◌, ◌<◌}
 use native.Mathlib.Omega.{arith}
-use lib.Dec.{eqb}
+use lib.Dec.{eqb, ltb}
 use lib.ListN.{length, take, drop, get_or, drop_of_length-le}
-use borrow.Author.Tests.{eq-eqb, ne_eqb, eqb-true}
+use borrow.Author.Tests.{ne_eqb, eqb-true, ltb-true, ltb-false}
 use Rattle.reading.proofs.Places.{by_test}
 use Rattle.utf8.specs.Utf8.{octets_of, is_space, character, behind, characters, size, is_utf8, dark_lead, dark_end}
-use Rattle.utf8.specs.declared.Decoded.TheVariants.{Of}
-use Rattle.utf8.proofs.Characters.{octets_some, octets_below, character_at, character_within}
+use Rattle.std.specs.Prelude.{Some, None}
+use Rattle.utf8.proofs.Characters.{octets_some, octets_below, character_at, character_within, some_inside, none_at}
 use Rattle.utf8.proofs.Below.{characters_at}
 
 -- past the end there are none
 pub none_past : (l : List ℕ) (at : ℕ) → length l ≤ at → characters (drop at l) ≡ []
 unfolding characters behind
 none_past l at h = rw (drop_of_length-le l h)
+
+none_left : (l : List ℕ) (at : ℕ) → character (take (length l - at) (drop at l)) ≡ None → characters (drop at l) ≡ []
+none_left l at e = by_test (ltb at (length l)) (λ t. none_at l at (ltb-true at (length l) t) e) (λ f. none_past l at (ltb-false at (length l) f))
 
 -- ---- f counts octets from the start on, up to some character
 pub record Walked (f : List ℕ → ℕ) (l : List ℕ) (at : ℕ) : Type 0 where
@@ -29,15 +32,20 @@ walked_none_yet f l = record { within = omega arith; is = omega arith }
 
 module _ {f : List ℕ → ℕ} {l : List ℕ} {at : ℕ} (w : Walked f l at) where
   -- behind a character of n octets
-  pub walked_on : (c n : ℕ) → n ≡ octets_of c → at < length l → character (take (length l - at) (drop at l)) ≡ Of c
+  pub walked_on : (c n : ℕ) → n ≡ octets_of c → character (take (length l - at) (drop at l)) ≡ Some c
       → ((cs : List ℕ) → f (c ∷ cs) ≡ octets_of c + f cs) → Walked f l (at + n)
-  walked_on c n o h e t =
+  walked_on c n o e t =
+      let h = some_inside l at c e in
       let i : f (characters (drop at l)) ≡ octets_of c + f (characters (drop (at + octets_of c) l)) = ap f (character_at l at h c e) ∙ t _ in
       rw o (record { within = character_within l at h c e; is = omega (arith, w.is, i) })
 
   -- it ends where f counts no more
   pub walked_up_to : f (characters (drop at l)) ≡ 0 → at ≡ f (characters l)
   walked_up_to e = omega (arith, w.is)
+
+  -- or where no character is left
+  pub walked_out : f [] ≡ 0 → character (take (length l - at) (drop at l)) ≡ None → at ≡ f (characters l)
+  walked_out z e = walked_up_to (ap f (none_left l at e) ∙ z)
 
 -- ---- the last character that is no white space ended at `end`
 unfoldable pub up_to : ℕ → ℕ → ℕ → ℕ
@@ -74,19 +82,20 @@ ended_turn false false at end o n h e =
     up_to_some at end (o + n) (omega arith) ∙ omega (arith, s)
 
 module _ {l : List ℕ} {at end : ℕ} (w : Ended l at end) where
-  pub ended_on : (c n : ℕ) {m : ℕ} → n ≡ octets_of c → at < length l → character (take (length l - at) (drop at l)) ≡ Of c → m ≡ cond (is_space c) end (at + n)
+  pub ended_on : (c n : ℕ) {m : ℕ} → n ≡ octets_of c → character (take (length l - at) (drop at l)) ≡ Some c → m ≡ cond (is_space c) end (at + n)
       → Ended l (at + n) m
   unfolding dark_end
-  ended_on c n o h e i =
+  ended_on c n o e i =
+      let h = some_inside l at c e in
       let cs = characters (drop (at + octets_of c) l) in
       let t = ended_turn (is_space c) (eqb (dark_end cs) 0) at end (octets_of c) (dark_end cs) (octets_some c) refl in
       let here = ap (λ (cs : List ℕ). up_to at end (dark_end cs)) (sym (character_at l at h c e)) in
       rw (i, o) (record { within = character_within l at h c e; is = sym t ∙ here ∙ w.is })
 
   -- no character is left
-  pub ended_here : characters (drop at l) ≡ [] → end ≡ dark_end (characters l)
+  pub ended_here : character (take (length l - at) (drop at l)) ≡ None → end ≡ dark_end (characters l)
   unfolding dark_end up_to
-  ended_here e = ap (λ (cs : List ℕ). up_to at end (dark_end cs)) (sym e) ∙ w.is
+  ended_here e = ap (λ (cs : List ℕ). up_to at end (dark_end cs)) (sym (none_left l at e)) ∙ w.is
 
 -- ---- what the counts do at a character, and at the end
 pub size_on : (c : ℕ) (cs : List ℕ) → size (c ∷ cs) ≡ octets_of c + size cs
@@ -101,23 +110,9 @@ pub lead_white : (c : ℕ) → is_space c ≡ true → (cs : List ℕ) → dark_
 unfolding dark_lead
 lead_white c s cs = rw s
 
-pub size_none : {cs : List ℕ} → cs ≡ [] → size cs ≡ 0
-unfolding size
-size_none e = ap size e
-
 pub lead_none : {cs : List ℕ} → cs ≡ [] → dark_lead cs ≡ 0
 unfolding dark_lead
 lead_none e = ap dark_lead e
-
--- ---- all bytes are characters', or some are not
-module _ {l : List ℕ} {at : ℕ} (w : Walked size l at) where
-  pub utf8_not : at < length l → characters (drop at l) ≡ [] → false ≡ is_utf8 l
-  unfolding is_utf8
-  utf8_not h e = let s = walked_up_to w (size_none e) in sym (ne_eqb (size (characters l)) (length l) (λ n. omega (arith, s)))
-
-  pub utf8_all : length l ≤ at → true ≡ is_utf8 l
-  unfolding is_utf8
-  utf8_all h = let s = walked_up_to w (size_none (none_past l at h)) in sym (eq-eqb (size (characters l)) (length l) (omega (arith, s, w.within)))
 
 -- ---- nothing is counted that is not there
 lead_if : (t : Bool) (o n m : ℕ) → n ≤ m → cond t 0 (o + n) ≤ o + m

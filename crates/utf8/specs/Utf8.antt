@@ -1,9 +1,7 @@
 -- Characters in bytes: UTF-8 as RFC 3629, section 3, has it, and which characters are white space.
 -- Assumes nothing.
-use Rattle.std.specs.Prelude.{Bool, cond, not, ◌&&◌, ◌||◌, List, [], ◌∷◌, ℕ, zero, suc, ◌+◌, ◌*◌, ◌-◌, eqb, leb, ltb, length}
+use Rattle.std.specs.Prelude.{Bool, cond, not, ◌&&◌, ◌||◌, List, [], ◌∷◌, ℕ, zero, suc, ◌+◌, ◌*◌, ◌-◌, eqb, leb, ltb, length, Option, Some, None}
 use Rattle.classes.specs.Classes.{is_white}
-use Rattle.utf8.specs.declared.Decoded.{Decoded}
-use Rattle.utf8.specs.declared.Decoded.TheVariants.{Of, Broken}
 
 abbrev pub between : ℕ → ℕ → ℕ → Bool
 between first last c = leb first c && leb c last
@@ -33,34 +31,34 @@ unfoldable pub is_tail : ℕ → Bool
 is_tail b = between 0x80 0xbf b
 
 -- what n octets stand for: a number that is a character's and takes as many. In more octets than it takes it is no character
-unfoldable pub lawful : ℕ → ℕ → Decoded
-lawful n c = cond (eqb (octets_of c) n && is_scalar c) (Of c) Broken
+unfoldable pub lawful : ℕ → ℕ → Option ℕ
+lawful n c = cond (eqb (octets_of c) n && is_scalar c) (Some c) None
 
 -- n octets of which the bits so far are worth c and k are still to come, each with six bits more
-unfoldable pub sequence : ℕ → ℕ → ℕ → List ℕ → Decoded
+unfoldable pub sequence : ℕ → ℕ → ℕ → List ℕ → Option ℕ
 sequence n zero c l = lawful n c
-sequence n (suc k) c [] = Broken
-sequence n (suc k) c (b ∷ l) = cond (is_tail b) (sequence n k (c * 64 + (b - 0x80)) l) Broken
+sequence n (suc k) c [] = None
+sequence n (suc k) c (b ∷ l) = cond (is_tail b) (sequence n k (c * 64 + (b - 0x80)) l) None
 
 -- by its first octet: 0xxxxxxx, 110xxxxx, 1110xxxx or 11110xxx
-unfoldable pub opened : ℕ → List ℕ → Decoded
+unfoldable pub opened : ℕ → List ℕ → Option ℕ
 opened b l =
-    cond (ltb b 0x80) (Of b)
-    (cond (ltb b 0xc0) Broken
+    cond (ltb b 0x80) (Some b)
+    (cond (ltb b 0xc0) None
     (cond (ltb b 0xe0) (sequence 2 1 (b - 0xc0) l)
-    (cond (ltb b 0xf0) (sequence 3 2 (b - 0xe0) l) (cond (ltb b 0xf8) (sequence 4 3 (b - 0xf0) l) Broken))))
+    (cond (ltb b 0xf0) (sequence 3 2 (b - 0xe0) l) (cond (ltb b 0xf8) (sequence 4 3 (b - 0xf0) l) None))))
 
 -- the character that a list opens with
-unfoldable pub character : List ℕ → Decoded
-character [] = Broken
+unfoldable pub character : List ℕ → Option ℕ
+character [] = None
 character (b ∷ l) = opened b l
 
 -- ---- the characters of a line
 
 -- a character, and those behind the octets that it has besides its first
-unfoldable pub onto : Decoded → (ℕ → List ℕ) → List ℕ
-onto (Of c) behind = c ∷ behind (octets_of c - 1)
-onto Broken behind = []
+unfoldable pub onto : Option ℕ → (ℕ → List ℕ) → List ℕ
+onto (Some c) behind = c ∷ behind (octets_of c - 1)
+onto None behind = []
 
 -- behind k octets, the characters up to where none stands
 unfoldable pub behind : ℕ → List ℕ → List ℕ

@@ -3,7 +3,7 @@
 use mathlib.Core.Path.{◌≡◌, refl}
 use mathlib.Core.Bool.{Bool, true, false, cond}
 use mathlib.Core.List.{List, [], ◌∷◌, flatten}
-use mathlib.Core.Option.{Option, none, some}
+use Rattle.std.specs.Prelude.{Option, None, Some}
 use Prim.Native.Nat.{ℕ, zero, suc, ◌+◌, ◌-◌}
 use lib.Dec.{eqb, leb, ltb}
 use lib.ListN.{length}
@@ -17,8 +17,7 @@ use Rattle.fields.specs.Common.{Known, unknown}
 use Rattle.fields.specs.Imap.{is_append, holds_colon}
 use Rattle.fields.specs.Pop3.{stls_answer, retr_answer}
 use Rattle.fields.specs.Smtp.{starts_with_helo, is_mail_from, second_line, is_data, rcpt_to}
-use Rattle.fields.specs.declared.smtp.Address.{Address}
-use Rattle.fields.specs.declared.smtp.Address.TheVariants.{Given, Missing}
+use Rattle.reading.specs.declared.Span.{Span}
 use Rattle.fields.specs.declared.smtp.Second.{Second}
 use Rattle.fields.specs.declared.smtp.Second.TheVariants as is
 use Rattle.reading.specs.Bytes.{starts_with, same}
@@ -27,8 +26,7 @@ use Rattle.reading.specs.Text.{text}
 use Rattle.rules.proofs.Strict.{CutShort, alike as same_run, cut_at, cut_short}
 use Rattle.rules.specs.Imap.{on_command, on_offered, on_closing}
 use Rattle.rules.specs.Machine.{Reaction, Ran, turn, go, run}
-use Rattle.rules.specs.Mail.{dot_line, hyphens, levels, after_mail, rest, literal_body, plain_mail, boundary_free, begun, on_head, on_text, on_literal}
-use Rattle.rules.specs.Mail.{on_preamble, on_opened, on_content, outermost, by_rest, skip, on_between, last_line, popped, on_skipping, on_resting}
+use Rattle.rules.specs.Mail.{dot_line, hyphens, levels, after_mail, rest, literal_body, plain_mail, boundary_free, begun, on_head, on_text, on_literal, on_preamble, on_opened, on_content, outermost, by_rest, skip, on_between, last_line, popped, on_skipping, on_resting}
 use Rattle.rules.specs.Phases
 use Rattle.rules.specs.Phases.{Phase, State, reads, ends, need, then, stop, ahead}
 use Rattle.rules.specs.Pop3.{on_status}
@@ -78,10 +76,10 @@ second_own is.AuthLogin at l = on
 second_own is.MailFrom at l = on
 second_own is.Other at l = on
 
-recipient_own : (at : ℕ) (a : Address) → Own (by_recipient at a)
+recipient_own : (at : ℕ) (a : Option Span) → Own (by_recipient at a)
 unfolding by_recipient is_twenty
-recipient_own at (Given o k) = on
-recipient_own at Missing = over refl
+recipient_own at (Some s) = on
+recipient_own at None = over refl
 
 after_own : (m : Mail) (to : ℕ) → Leads (after_mail m to)
 unfolding after_mail is_twenty
@@ -117,8 +115,8 @@ plain_own m e (b ∷ os) to = on
 
 begun_own : (m : Mail) (e : Encoding) (b : Option (List ℕ)) (os : List (List ℕ)) (to : ℕ) → Own (begun m e b os to)
 unfolding begun is_twenty
-begun_own m e none os to = plain_own m e os to
-begun_own m e (some b) os to = either Own (leb levels (length os)) (over refl) on
+begun_own m e None os to = plain_own m e os to
+begun_own m e (Some b) os to = either Own (leb levels (length os)) (over refl) on
 
 head_own : (m : Mail) (k : Known) (os : List (List ℕ)) (at : ℕ) (l : List ℕ) → Own (on_head m k os at l)
 unfolding on_head

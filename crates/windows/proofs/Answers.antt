@@ -8,29 +8,26 @@ use Rattle.reading.specs.Text.{text}
 use Rattle.reading.specs.Bytes.{starts_with, same, ends_with, raised, first, first_place, holds, stands, found, contains}
 use Rattle.reading.specs.Reading.{clean, drop_end, may_stand, delimits, past, reach, parted, fetch}
 use Rattle.utf8.specs.Utf8.{octets_of, is_scalar, is_space, is_tail, lawful, sequence, opened, character, onto, behind, characters, size, is_utf8, dark_lead, dark_end}
-use Rattle.fields.specs.Runs.{runs, lead, last, last_place, through, worth_behind, worth}
-use Rattle.fields.specs.Common.{encoding_named, behind_spaces, transfer_encoding, closed, quoted, unquoted, typed, named, bare_parameter, parameter, content_type, content_type_ext}
-use Rattle.fields.specs.Common.{first_encoding, by_type, by_ext, by_boundary, scanned, dash_bdry}
+use Rattle.fields.specs.Runs.{lead, last, last_place, through, worth_behind, worth}
+use Rattle.fields.specs.Common.{encoding_named, behind_spaces, transfer_encoding, closed, quoted, unquoted, typed, named, bare_parameter, parameter, content_type, content_type_ext, first_encoding, by_type, by_ext, by_boundary, scanned, dash_bdry}
 use Rattle.fields.specs.Smtp.{starts_with_helo, is_mail_from, second_line, is_data, up_to_end, closing as closingAt, mail_from, required, rcpt_to}
 use Rattle.fields.specs.Pop3.{stls_answer, octets, octets_follow, numbered, retr_answer}
 use Rattle.fields.specs.Imap.{append_follows, tag, is_append, dark, text_end, trimmed, braced, from_brace, size_of, append_size, holds_colon}
 use Rattle.rules.specs.Machine.{turn, go, run}
-use Rattle.rules.specs.Phases.{wants, need}
-use Rattle.rules.specs.Mail.{after_mail, literal_body, rest, plain_mail, boundary_free, begun, on_head, on_text, held, whole, on_literal}
-use Rattle.rules.specs.Mail.{on_preamble, on_opened, content_length, on_content, outermost, by_rest, skip, on_between, last_line, popped, on_skipping, on_resting}
+use Rattle.rules.specs.Phases.{wants, need, reads}
+use Rattle.rules.specs.Mail.{after_mail, literal_body, rest, plain_mail, boundary_free, begun, on_head, on_text, held, whole, on_literal, on_preamble, on_opened, content_length, on_content, outermost, by_rest, skip, on_between, last_line, popped, on_skipping, on_resting}
 use Rattle.rules.specs.Smtp.{on_hello, given, by_second, on_second, on_user, on_password, on_sender, on_seeking, by_recipient, on_recipient, on_reply}
 use Rattle.rules.specs.Pop3.{on_status}
 use Rattle.rules.specs.Imap.{on_command, on_offered, on_closing}
 use Rattle.rules.specs.declared.Entry.{Entry}
 use Rattle.rules.specs.declared.Entry.TheVariants.{SmtpClient, SmtpServer, Pop3Server, ImapClient}
 use mathlib.Core.Bool.{true}
-use mathlib.Core.Option.{some}
+use Rattle.std.specs.Prelude.{Some}
 use Prim.Native.Nat.{ℕ, ◌+◌, ◌*◌, ◌-◌}
 use lib.ListN.{length, replicate}
 use Rattle.events.specs.Table.{store, pour}
 use Rattle.events.specs.declared.Encoding.TheVariants.{Unsaid}
 use Rattle.rules.specs.Phases as phase
-use Rattle.rules.specs.Phases.{reads}
 use Rattle.rules.specs.Sessions.{reacts, react, result_of, place_of, start_of}
 use Rattle.rules.specs.Strict.{lax, is_bare, strictly}
 use Rattle.rules.specs.declared.Settings.{Settings}
@@ -184,7 +181,7 @@ after n = record { stand = fresh (reads phase.reply); at = n; log = record { cou
 abbrev deep : ℕ → Record
 deep n =
     record {
-      stand = fresh (reads (phase.head Smtp (record { encoding = Unsaid; type_seen = true; boundary = some (bs 71) }) (replicate n (98 ∷ []))));
+      stand = fresh (reads (phase.head Smtp (record { encoding = Unsaid; type_seen = true; boundary = Some (bs 71) }) (replicate n (98 ∷ []))));
       at = 100;
       log = record { count = 0 };
     }
@@ -208,7 +205,7 @@ all_hold : Holds sessions × Holds bare_lines × Holds records
 unfolding trace shows taken window strictly is_bare refused lands landed keeps over said enter enters opens copied clipped takes does stand_result stand_place word or_else standing
     piece_of is_at is_mark result_of place_of react reacts need wants run go turn fetch parted reach past first first_place holds stands found contains
     delimits may_stand starts_with same ends_with raised clean drop_end upper_of is_letter is_upper is_white is_blank is_pop_white is_digit store pour
-    lead runs last last_place through worth worth_behind transfer_encoding encoding_named behind_spaces closed quoted unquoted typed named bare_parameter
+    lead last last_place through worth worth_behind transfer_encoding encoding_named behind_spaces closed quoted unquoted typed named bare_parameter
     parameter content_type content_type_ext first_encoding by_type by_ext by_boundary scanned dash_bdry starts_with_helo is_mail_from second_line is_data up_to_end
     closingAt mail_from required rcpt_to stls_answer octets octets_follow numbered retr_answer append_follows tag is_append dark text_end trimmed braced
     is_utf8 size dark_lead dark_end is_space characters behind onto character opened sequence lawful is_tail is_scalar octets_of from_brace size_of

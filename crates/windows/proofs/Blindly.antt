@@ -16,7 +16,7 @@ use Rattle.reading.proofs.Alike.{got_cut}
 use Rattle.reading.proofs.Pieces.{got_splits, got_itself, got_alone, got_reach, got_length}
 use Rattle.reading.proofs.Places.{by_test}
 use Rattle.reading.specs.Reading.{Need, bytes, Got, got, short, reach, parted, fetch}
-use Rattle.reading.specs.declared.Place.TheVariants.{At, Nowhere}
+use Rattle.std.specs.Prelude.{Some, None}
 use Rattle.rules.proofs.Blind.{Blind, still_content, blind_with}
 use Rattle.rules.proofs.Changes.{AllLie, changed_piece, changed_rest, still, unchanged}
 use Rattle.rules.proofs.Machines.{session_shorter}
@@ -75,7 +75,7 @@ module _ (set : Settings) where
   unfolding reach
   sized_long n s p r f = let e = got_reach (bytes n) s p r f in got_length (bytes n) s p r f ∙ by_room (ltb n (length s)) e.0 e.1
     where
-      by_room : (b : Bool) (m : ℕ) → cond b (At (n + 1)) Nowhere ≡ At m → m ≡ n + 1
+      by_room : (b : Bool) (m : ℕ) → cond b (Some (n + 1)) None ≡ Some m → m ≡ n + 1
       by_room true m h = cc
       by_room false m h = absurd (let z : ◌≡◌ {A = ℕ} 0 1 = cc in omega arith)
 

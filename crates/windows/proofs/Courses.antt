@@ -3,7 +3,7 @@
 use mathlib.Core.Path.{◌≡◌, refl, sym, ap, ◌∙◌}
 use mathlib.Core.Bool.{Bool, true, false, cond, not, ◌&&◌}
 use mathlib.Core.List.{List, ◌∷◌, ◌++◌}
-use mathlib.Core.Option.{Option, none, some}
+use Rattle.std.specs.Prelude.{Option, None, Some}
 use Prim.Native.Nat.{ℕ, ◌+◌, ◌-◌, ◌≤◌, ◌<◌}
 use native.Mathlib.Omega.{arith}
 use lib.Dec.{eqb, ltb, leb}
@@ -35,8 +35,7 @@ use Rattle.windows.proofs.Marks.{by_lines, piece_splits}
 use Rattle.windows.proofs.Piecemeal.{Piecemeal, Under, Comes, comes}
 use Rattle.windows.proofs.Sized.{by_bytes}
 use Rattle.windows.specs.Pieces.{word, piece_of, is_mark}
-use Rattle.windows.specs.Stands.{Stand, fresh, in_preamble, in_content, in_literal, longest, copied, clipped, opens, enters, enter, entered, goes_on, takes, does, pieces}
-use Rattle.windows.specs.Stands.{stand_result, stand_place}
+use Rattle.windows.specs.Stands.{Stand, fresh, in_preamble, in_content, in_literal, longest, copied, clipped, opens, enters, enter, entered, goes_on, takes, does, pieces, stand_result, stand_place}
 
 -- ---- piece and rest make up the bytes
 takes_splits : (f : Stand) (s p r : List ℕ) → takes f s ≡ got p r → (s ≡ p ++ r) × (0 < length p)
@@ -135,20 +134,20 @@ twelve m b os at =
 module _ (set : Settings) where
   -- behind a header's blank line: 9 inside eight levels, else so, at the same place
   pub after_nine : (m : Mail) (e : Encoding) (seen : Bool) (b : List ℕ) (os : List (List ℕ)) (at : ℕ)
-      → (does set (fresh (reads (phase.head m (clipped (record { encoding = e; type_seen = seen; boundary = some b })) os))) at crlf).next
+      → (does set (fresh (reads (phase.head m (clipped (record { encoding = e; type_seen = seen; boundary = Some b })) os))) at crlf).next
       ≡ cond (leb levels (length os)) (fresh (ends TooDeep (at + 2))) (cond (ltb longest (length b)) (fresh (ends LongBoundary (at + 2))) (in_preamble m b os (at + 2) true))
   unfolding does strictly is_bare need wants react reacts on_head clipped copied begun enter enters ends_with same starts_with
   after_nine m e seen b os at = by_test (leb levels (length os)) (λ h. rw h) (λ h. rw (h, twelve m b os (at + 2)))
 
 begun_clipped : (m : Mail) (e : Encoding) (o : Option (List ℕ)) (os : List (List ℕ)) (to : ℕ) → entered (begun m e (copied o) os to) to ≡ entered (begun m e o os to) to
 unfolding begun copied enter enters opens
-begun_clipped m e none os to = refl
-begun_clipped m e (some b) os to = by_test (leb levels (length os)) (λ h. rw h) (λ h. rw h (ap (λ (f : Stand). goes_on f) (twelve m b os to)))
+begun_clipped m e None os to = refl
+begun_clipped m e (Some b) os to = by_test (leb levels (length os)) (λ h. rw h) (λ h. rw h (ap (λ (f : Stand). goes_on f) (twelve m b os to)))
 
 pub clipped_again : (e : Encoding) (seen : Bool) (o : Option (List ℕ)) (l : List ℕ) → clipped (by_boundary e seen (copied o) l) ≡ clipped (by_boundary e seen o l)
 unfolding copied clipped by_boundary
-clipped_again e seen none l = refl
-clipped_again e seen (some b) l = rw (take-take (longest + 1) (longest + 1) b (let n : longest + 1 ≤ longest + 1 = omega arith in n))
+clipped_again e seen None l = refl
+clipped_again e seen (Some b) l = rw (take-take (longest + 1) (longest + 1) b (let n : longest + 1 ≤ longest + 1 = omega arith in n))
 
 abbrev listed : Event → Reaction Stand → Reaction Stand
 listed e re = record { events = e ∷ re.events; next = re.next }

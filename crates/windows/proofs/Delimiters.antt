@@ -13,22 +13,21 @@ use Rattle.reading.proofs.Places.{by_test}
 use Rattle.reading.proofs.Words.{starts_long, starts_is, starts_take}
 use Rattle.reading.specs.Bytes.{starts_with, ends_with, first, first_place}
 use Rattle.reading.specs.Reading.{crlf, dash, may_stand, delimits, a_line, delimiter, past, reach, got, parted, fetch}
-use Rattle.reading.specs.declared.Place.{Place}
-use Rattle.reading.specs.declared.Place.TheVariants.{At, Nowhere}
+use Rattle.std.specs.Prelude.{Option, Some, None}
 use Rattle.windows.proofs.Marks.{Marks, Told, stands_at, first_end, up_to, lined}
 use Rattle.windows.specs.Pieces.{word, or_else, standing}
 
 -- ---- a word
 module _ (w : List ℕ) where
-  word_at : (s : List ℕ) (n : ℕ) → word w s ≡ At n → (starts_with w s ≡ true) × (length w ≡ n)
+  word_at : (s : List ℕ) (n : ℕ) → word w s ≡ Some n → (starts_with w s ≡ true) × (length w ≡ n)
   unfolding word
   word_at s n e = by_start (starts_with w s) e
     where
-      by_start : (b : Bool) → cond b (At (length w)) Nowhere ≡ At n → (b ≡ true) × (length w ≡ n)
+      by_start : (b : Bool) → cond b (Some (length w)) None ≡ Some n → (b ≡ true) × (length w ≡ n)
       by_start true h = (refl, cc)
       by_start false h = absurd (let z : ◌≡◌ {A = ℕ} 0 1 = cc in omega arith)
 
-  word_is : (s : List ℕ) (n : ℕ) → starts_with w s ≡ true → length w ≡ n → word w s ≡ At n
+  word_is : (s : List ℕ) (n : ℕ) → starts_with w s ≡ true → length w ≡ n → word w s ≡ Some n
   unfolding word
   word_is s n h e = rw (h, e)
 
@@ -92,25 +91,25 @@ pub word_told : (w : List ℕ) → LfLast w → Told (word w)
 unfolding word
 word_told w h = record { none = λ s l r t e f. let n = none s e in rw (still_none w s l r t h n f) }
   where
-    none_if : (b : Bool) → cond b (At (length w)) Nowhere ≡ Nowhere → b ≡ false
+    none_if : (b : Bool) → cond b (Some (length w)) None ≡ None → b ≡ false
     none_if true g = absurd (let z : ◌≡◌ {A = ℕ} 0 1 = cc in omega arith)
     none_if false g = refl
 
-    none : (s : List ℕ) → word w s ≡ Nowhere → starts_with w s ≡ false
+    none : (s : List ℕ) → word w s ≡ None → starts_with w s ≡ false
     none s e = none_if (starts_with w s) e
 
 -- ---- the delimiter of document 01
-place_or : (p k : ℕ) (b : Bool) (rest : Place) → or_else (past p (cond b (At k) Nowhere)) (past k rest) ≡ past k (cond b (At p) rest)
+place_or : (p k : ℕ) (b : Bool) (rest : Option ℕ) → or_else (past p (cond b (Some k) None)) (past k rest) ≡ past k (cond b (Some p) rest)
 unfolding past or_else
-place_or p k true rest = ap At (let n : k + p ≡ p + k = omega arith in n)
+place_or p k true rest = ap Some (let n : k + p ≡ p + k = omega arith in n)
 place_or p k false rest = refl
 
-by_place : (f : ℕ → Place) (g : ℕ → Bool) (k : ℕ) → ((q : ℕ) → f q ≡ cond (g q) (At k) Nowhere) → (p n : ℕ) → first_end f p n ≡ past k (first g p n)
+by_place : (f : ℕ → Option ℕ) (g : ℕ → Bool) (k : ℕ) → ((q : ℕ) → f q ≡ cond (g q) (Some k) None) → (p n : ℕ) → first_end f p n ≡ past k (first g p n)
 unfolding first_end first past
 by_place f g k h p zero = refl
 by_place f g k h p (suc n) = rw (h p, by_place f g k h (p + 1) n) (place_or p k (g p) (first g (p + 1) n))
 
-delimits_so : (d : List ℕ) (c e x : Bool) → cond (cond c true e) (cond x (At (length d)) Nowhere) Nowhere ≡ cond ((c || e) && x) (At (length d)) Nowhere
+delimits_so : (d : List ℕ) (c e x : Bool) → cond (cond c true e) (cond x (Some (length d)) None) None ≡ cond ((c || e) && x) (Some (length d)) None
 delimits_so d true e x = refl
 delimits_so d false true x = refl
 delimits_so d false false x = refl

@@ -3,7 +3,7 @@
 use mathlib.Core.Path.{◌≡◌, refl}
 use mathlib.Core.Bool.{◌&&◌}
 use mathlib.Core.List.{List, [], ◌∷◌}
-use mathlib.Core.Option.{Option, none, some}
+use Rattle.std.specs.Prelude.{Option, None, Some}
 use Prim.Native.Nat.{ℕ, zero, suc, ◌+◌, ◌-◌}
 use native.Mathlib.Omega.{arith}
 use lib.Dec.{eqb, ltb, leb}
@@ -14,8 +14,7 @@ use Rattle.fields.specs.Common.{Known, unknown}
 use Rattle.fields.specs.Imap.{is_append, holds_colon}
 use Rattle.fields.specs.Pop3.{stls_answer, retr_answer}
 use Rattle.fields.specs.Smtp.{starts_with_helo, is_mail_from, second_line, is_data, rcpt_to}
-use Rattle.fields.specs.declared.smtp.Address.{Address}
-use Rattle.fields.specs.declared.smtp.Address.TheVariants.{Given, Missing}
+use Rattle.reading.specs.declared.Span.{Span}
 use Rattle.fields.specs.declared.smtp.Second.{Second}
 use Rattle.fields.specs.declared.smtp.Second.TheVariants as is
 use Rattle.reading.specs.Bytes.{starts_with, same}
@@ -23,8 +22,7 @@ use Rattle.reading.specs.Reading.{crlf, clean, dash, got, reach, parted, fetch}
 use Rattle.reading.specs.Text.{text}
 use Rattle.rules.specs.Imap.{on_command, on_offered, on_closing}
 use Rattle.rules.specs.Machine.{Reaction}
-use Rattle.rules.specs.Mail.{dot_line, hyphens, levels, after_mail, rest, literal_body, plain_mail, boundary_free, begun, on_head, on_text, on_literal, on_preamble, on_opened}
-use Rattle.rules.specs.Mail.{on_content, outermost, by_rest, skip, on_between, last_line, popped, on_skipping, on_resting}
+use Rattle.rules.specs.Mail.{dot_line, hyphens, levels, after_mail, rest, literal_body, plain_mail, boundary_free, begun, on_head, on_text, on_literal, on_preamble, on_opened, on_content, outermost, by_rest, skip, on_between, last_line, popped, on_skipping, on_resting}
 use Rattle.rules.specs.Phases.{Phase, State, reads, ends, need}
 use Rattle.rules.specs.Phases as phase
 use Rattle.rules.specs.Pop3.{on_status}
@@ -86,8 +84,8 @@ module _ (to : ℕ) where
 
   begun_done : (m : Mail) (e : Encoding) (o : Option (List ℕ)) (os : List (List ℕ)) → Leads (begun m e o os to)
   unfolding begun DoneAt
-  begun_done m e none os = plain_done m e os
-  begun_done m e (some b) os = either Leads (leb levels (length os)) (λ z. absurd (omega arith)) tt
+  begun_done m e None os = plain_done m e os
+  begun_done m e (Some b) os = either Leads (leb levels (length os)) (λ z. absurd (omega arith)) tt
 
   -- ---- lines that end nothing
   second_done : (x : Second) (at : ℕ) (l : List ℕ) → Leads (by_second x at l)
@@ -97,10 +95,10 @@ module _ (to : ℕ) where
   second_done is.MailFrom at l = tt
   second_done is.Other at l = tt
 
-  recipient_done : (at : ℕ) (a : Address) → Leads (by_recipient at a)
+  recipient_done : (at : ℕ) (a : Option Span) → Leads (by_recipient at a)
   unfolding by_recipient DoneAt
-  recipient_done at (Given o n) = tt
-  recipient_done at Missing = λ z. absurd (omega arith)
+  recipient_done at (Some s) = tt
+  recipient_done at None = λ z. absurd (omega arith)
 
   command_done : (at : ℕ) (l : List ℕ) → Leads (on_command at l)
   unfolding on_command DoneAt

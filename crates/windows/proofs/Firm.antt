@@ -3,7 +3,7 @@
 use mathlib.Core.Path.{◌≡◌}
 use mathlib.Core.Bool.{Bool, true, false, cond, ◌&&◌}
 use mathlib.Core.List.{List, [], ◌∷◌, ◌++◌}
-use mathlib.Core.Option.{Option, none, some}
+use Rattle.std.specs.Prelude.{Option, None, Some}
 use Prim.Native.Nat.{ℕ, zero, suc, ◌+◌, ◌-◌}
 use native.Mathlib.Omega.{arith}
 use lib.Dec.{eqb, ltb, leb}
@@ -13,12 +13,9 @@ use Rattle.fields.specs.Common.{Known, unknown, scanned, by_boundary, by_ext, by
 use Rattle.fields.specs.Imap.{is_append, holds_colon}
 use Rattle.fields.specs.Pop3.{stls_answer, retr_answer}
 use Rattle.fields.specs.Smtp.{starts_with_helo, is_mail_from, second_line, is_data, rcpt_to}
-use Rattle.fields.specs.declared.common.Bdry.{Bdry}
-use Rattle.fields.specs.declared.common.Bdry.TheVariants.{Unsupplied, Of}
+use Rattle.reading.specs.declared.Span.{Span}
 use Rattle.fields.specs.declared.common.ContentType.{ContentType}
 use Rattle.fields.specs.declared.common.ContentType.TheVariants.{Other, Plain, Bounded}
-use Rattle.fields.specs.declared.smtp.Address.{Address}
-use Rattle.fields.specs.declared.smtp.Address.TheVariants.{Given, Missing}
 use Rattle.fields.specs.declared.smtp.Second.{Second}
 use Rattle.fields.specs.declared.smtp.Second.TheVariants as is
 use Rattle.reading.proofs.Pieces.{got_holds}
@@ -27,8 +24,7 @@ use Rattle.reading.specs.Reading.{crlf, clean, dash, bytes, got, fetch}
 use Rattle.reading.specs.Text.{text}
 use Rattle.rules.specs.Imap.{on_command, on_offered, on_closing}
 use Rattle.rules.specs.Machine.{Reaction}
-use Rattle.rules.specs.Mail.{dot_line, hyphens, levels, after_mail, rest, literal_body, plain_mail, boundary_free, begun, on_head, on_text, on_literal, on_preamble, on_opened}
-use Rattle.rules.specs.Mail.{on_content, outermost, by_rest, skip, on_between, last_line, popped, on_skipping, on_resting}
+use Rattle.rules.specs.Mail.{dot_line, hyphens, levels, after_mail, rest, literal_body, plain_mail, boundary_free, begun, on_head, on_text, on_literal, on_preamble, on_opened, on_content, outermost, by_rest, skip, on_between, last_line, popped, on_skipping, on_resting}
 use Rattle.rules.specs.Phases.{Phase, State, reads, ends, need, wants}
 use Rattle.rules.specs.Phases as phase
 use Rattle.rules.specs.Pop3.{on_status}
@@ -49,8 +45,8 @@ AllLast [] = Unit {0}
 AllLast (b ∷ os) = LfLast b × AllLast os
 
 unfoldable pub MaybeLast : Option (List ℕ) → Type 0
-MaybeLast none = Unit {0}
-MaybeLast (some b) = LfLast b
+MaybeLast None = Unit {0}
+MaybeLast (Some b) = LfLast b
 
 unfoldable pub FirmPhase : Phase → Type 0
 FirmPhase phase.hello = Unit {0}
@@ -129,26 +125,26 @@ plain_firm m e (b ∷ os) to h = h
 
 begun_firm : (m : Mail) (e : Encoding) (o : Option (List ℕ)) (os : List (List ℕ)) (to : ℕ) → MaybeLast o → AllLast os → Leads (begun m e o os to)
 unfolding begun FirmState FirmPhase MaybeLast AllLast
-begun_firm m e none os to g h = plain_firm m e os to h
-begun_firm m e (some b) os to g h = either Leads (leb levels (length os)) tt (g, h)
+begun_firm m e None os to g h = plain_firm m e os to h
+begun_firm m e (Some b) os to g h = either Leads (leb levels (length os)) tt (g, h)
 
 -- ---- what a line supplies is a part of it
 type_firm : (e : Encoding) (seen : Bool) (l : List ℕ) (c : ContentType) → LfLast l → MaybeLast (by_type e seen l c).boundary
 unfolding by_type MaybeLast
 type_firm e seen l Other h = tt
 type_firm e seen l Plain h = tt
-type_firm e seen l (Bounded o n) h = part_last l o n h
+type_firm e seen l (Bounded b) h = part_last l b.at b.len h
 
-ext_firm : (e : Encoding) (seen : Bool) (l : List ℕ) (c : Bdry) → LfLast l → MaybeLast (by_ext e seen l c).boundary
+ext_firm : (e : Encoding) (seen : Bool) (l : List ℕ) (c : Option Span) → LfLast l → MaybeLast (by_ext e seen l c).boundary
 unfolding by_ext MaybeLast
-ext_firm e seen l (Of o n) h = part_last l o n h
-ext_firm e seen l Unsupplied h = type_firm e seen l (content_type l) h
+ext_firm e seen l (Some b) h = part_last l b.at b.len h
+ext_firm e seen l None h = type_firm e seen l (content_type l) h
 
 boundary_firm : (e : Encoding) (seen : Bool) (o : Option (List ℕ)) (l : List ℕ) → MaybeLast o → LfLast l → MaybeLast (by_boundary e seen o l).boundary
 unfolding by_boundary MaybeLast
-boundary_firm e seen (some b) l g h = g
-boundary_firm e true none l g h = ext_firm e true l (content_type_ext l) h
-boundary_firm e false none l g h = type_firm e false l (content_type l) h
+boundary_firm e seen (Some b) l g h = g
+boundary_firm e true None l g h = ext_firm e true l (content_type_ext l) h
+boundary_firm e false None l g h = type_firm e false l (content_type l) h
 
 head_firm : (m : Mail) (k : Known) (os : List (List ℕ)) (at : ℕ) (l : List ℕ) → MaybeLast k.boundary → AllLast os → LfLast l → Leads (on_head m k os at l)
 unfolding on_head scanned FirmState FirmPhase
@@ -165,10 +161,10 @@ second_firm is.AuthLogin at l = tt
 second_firm is.MailFrom at l = tt
 second_firm is.Other at l = tt
 
-recipient_firm : (at : ℕ) (a : Address) → Leads (by_recipient at a)
+recipient_firm : (at : ℕ) (a : Option Span) → Leads (by_recipient at a)
 unfolding by_recipient FirmState FirmPhase
-recipient_firm at (Given o n) = tt
-recipient_firm at Missing = tt
+recipient_firm at (Some s) = tt
+recipient_firm at None = tt
 
 command_firm : (at : ℕ) (l : List ℕ) → Leads (on_command at l)
 unfolding on_command FirmState FirmPhase
@@ -214,8 +210,8 @@ with_firm set st at s p r g f = either Leads (is_bare (need st) p && set.strict)
 -- ---- and the stands
 copied_firm : (o : Option (List ℕ)) → MaybeLast o → MaybeLast (copied o)
 unfolding MaybeLast copied
-copied_firm none h = tt
-copied_firm (some b) h = part_last b 0 (longest + 1) h
+copied_firm None h = tt
+copied_firm (Some b) h = part_last b 0 (longest + 1) h
 
 enters_firm : (ph : Phase) (at : ℕ) → FirmPhase ph → Firm (enters ph at)
 unfolding enters opens clipped Firm FirmState FirmPhase

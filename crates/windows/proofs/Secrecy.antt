@@ -66,8 +66,8 @@ module _ (set : Settings) where
       }
 
   module _ (t : List ℕ) (f : Stand) (sound : Firm f) where
-    abbrev At : List ℕ → Tap → Type 0
-    At = Reached set t f sound
+    abbrev Some : List ℕ → Tap → Type 0
+    Some = Reached set t f sound
 
     -- a tap that goes on stands where the run on its bytes stands
     record Lives (s : List ℕ) (x : Tap) : Type 0 where
@@ -75,7 +75,7 @@ module _ (set : Settings) where
       at : x.session.at ≡ (pieces set f 0 s).at
       left : x.untaken ≡ (pieces set f 0 s).rest
 
-    lives : (s : List ℕ) (x : Tap) → At s x → over x.session.stand ≡ false → Lives s x
+    lives : (s : List ℕ) (x : Tap) → Some s x → over x.session.stand ≡ false → Lives s x
     lives s x (within (live u log h p e)) g =
         record { stand = ap (λ (y : Tap). y.session.stand) e; at = ap (λ (y : Tap). y.session.at) e; left = ap (λ (y : Tap). y.untaken) e }
     lives s x (within (dead h e z)) g = absurd (apart (sym h ∙ g))
@@ -83,7 +83,7 @@ module _ (set : Settings) where
 
     -- ---- one window of each of two taps
     module _ (s v w z : List ℕ) (x y : Tap) (x-set : x.settings ≡ set) (y-set : y.settings ≡ set)
-        (session-same : y.session ≡ x.session) (table_same : y.table ≡ x.table) (i : At s x) (j : At v y)
+        (session-same : y.session ≡ x.session) (table_same : y.table ≡ x.table) (i : Some s x) (j : Some v y)
         (long : length v ≡ length s) (next-long : length z ≡ length w)
         (was : Alike (pieces set f 0 v) (pieces set f 0 s)) (will : Alike (pieces set f 0 (v ++ z)) (pieces set f 0 (s ++ w))) where
       while_live : Lives s x → Lives v y → window set x.session x.table (y.untaken ++ z) ≡ window set x.session x.table (x.untaken ++ w)
@@ -114,7 +114,7 @@ module _ (set : Settings) where
     -- ---- windows one after another
     same_answers : (ws vs : List (List ℕ)) (s v : List ℕ) (x y : Tap) → x.settings ≡ set → y.settings ≡ set
         → CutAlike ws vs → length v ≡ length s → y.session ≡ x.session → y.table ≡ x.table
-        → At s x → At v y → ((k : ℕ) → Alike (pieces set f 0 (take k (v ++ flatten vs))) (pieces set f 0 (take k (s ++ flatten ws)))) → answers y vs ≡ answers x ws
+        → Some s x → Some v y → ((k : ℕ) → Alike (pieces set f 0 (take k (v ++ flatten vs))) (pieces set f 0 (take k (s ++ flatten ws)))) → answers y vs ≡ answers x ws
     unfolding CutAlike answers shows flatten
     same_answers [] [] s v x y p q c long a b i j told = refl
     same_answers [] (z ∷ vs) s v x y p q c long a b i j told = absurd c

@@ -10,7 +10,7 @@ use lib.ListN.{length}
 use borrow.Author.Tests.{eqb-true, eqb-false, lt-ltb, le-ltb, ltb-true, ltb-false}
 use Rattle.reading.proofs.Places.{by_test}
 use Rattle.reading.specs.Reading.{bytes, reach, got, short, parted, fetch}
-use Rattle.reading.specs.declared.Place.TheVariants.{At, Nowhere}
+use Rattle.std.specs.Prelude.{Some, None}
 use Rattle.windows.proofs.Piecemeal.{onto, Piecemeal}
 
 pub sized_one : (x : ℕ) (s : List ℕ) → fetch (bytes 0) (x ∷ s) ≡ got (x ∷ []) s
@@ -27,10 +27,10 @@ sized_on n x s = by_test (ltb n (length s))
     (λ h. let g = lt-ltb (suc n) (suc (length s)) (omega (arith, ltb-true n (length s) h)) in rw (g, h) by_room)
     (λ h. let g = le-ltb (suc n) (suc (length s)) (omega (arith, ltb-false n (length s) h)) in rw (g, h) none)
   where
-    by_room : parted (x ∷ s) (At (suc n + 1)) ≡ onto (x ∷ []) (parted s (At (n + 1)))
+    by_room : parted (x ∷ s) (Some (suc n + 1)) ≡ onto (x ∷ []) (parted s (Some (n + 1)))
     by_room = let z : suc n + 1 ≡ suc (n + 1) = omega arith in rw z
 
-    none : parted (x ∷ s) Nowhere ≡ onto (x ∷ []) (parted s Nowhere)
+    none : parted (x ∷ s) None ≡ onto (x ∷ []) (parted s None)
     none = refl
 
 -- left + 1 bytes, one after another

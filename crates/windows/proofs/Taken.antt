@@ -16,8 +16,7 @@ use Rattle.events.specs.declared.Log.{Log}
 use Rattle.events.specs.declared.Outcome.{Outcome}
 use Rattle.events.specs.declared.Outcome.TheVariants.{TooLong, TableFull}
 use Rattle.reading.specs.Reading.{dash, a_line, bytes, short, reach, parted, fetch}
-use Rattle.reading.specs.declared.Place.{Place}
-use Rattle.reading.specs.declared.Place.TheVariants.{At, Nowhere}
+use Rattle.std.specs.Prelude.{Option, Some, None}
 use Rattle.rules.proofs.Changes.{apart}
 use Rattle.rules.specs.Machine.{Ran}
 use Rattle.rules.specs.Phases.{Phase, reads, ends, need, wants}
@@ -38,10 +37,10 @@ none_left : (s : List ℕ) → fetch (bytes 0) s ≡ short → s ≡ []
 none_left [] e = refl
 none_left (x ∷ s) e = absurd (got_none (sym e ∙ sized_one x s))
 
-line_if : (s : List ℕ) (x : Place) → parted s (or_else x (reach a_line s)) ≡ short → fetch a_line s ≡ short
+line_if : (s : List ℕ) (x : Option ℕ) → parted s (or_else x (reach a_line s)) ≡ short → fetch a_line s ≡ short
 unfolding or_else parted fetch
-line_if s (At n) e = absurd (got_none (sym e))
-line_if s Nowhere e = e
+line_if s (Some n) e = absurd (got_none (sym e))
+line_if s None e = e
 
 no_line : (mark : Mark) (here : Bool) (s : List ℕ) → piece_of mark here s ≡ short → fetch a_line s ≡ short
 unfolding piece_of

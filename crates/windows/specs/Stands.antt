@@ -1,7 +1,6 @@
 -- Sessions that may be cut anywhere: request W2. A session stands where a read of document 01 begins, or where a part of a preamble, a content or a sized body
 -- is taken; all else is document 01's, strict where that was chosen (W6). Assumes nothing.
-use Rattle.std.specs.Prelude.{Bool, true, cond, List, [], ℕ, ◌+◌, ◌-◌, eqb, ltb, length, take}
-use Rattle.std.proofs.Math.Option.{Option, none, some}
+use Rattle.std.specs.Prelude.{Bool, true, cond, List, [], ℕ, ◌+◌, ◌-◌, eqb, ltb, length, take, Option, None, Some}
 use Rattle.events.specs.declared.Encoding.{Encoding}
 use Rattle.events.specs.declared.Outcome.{Outcome}
 use Rattle.events.specs.declared.Outcome.TheVariants.{Incomplete, LongBoundary}
@@ -31,8 +30,8 @@ pub data Stand : Type 0 where
 
 -- ---- a phase of document 01 begins. Of a header's boundary one byte more is copied than may be: that it is too long can be told then
 unfoldable pub copied : Option (List ℕ) → Option (List ℕ)
-copied none = none
-copied (some b) = some (take (longest + 1) b)
+copied None = None
+copied (Some b) = Some (take (longest + 1) b)
 
 unfoldable pub clipped : Known → Known
 clipped k = record { encoding = k.encoding; type_seen = k.type_seen; boundary = copied k.boundary }

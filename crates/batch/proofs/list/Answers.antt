@@ -1,5 +1,5 @@
 -- `batch::list` meets its contract: too large, touched, or listed. Assumes nothing.
-use mathlib.Core.Path.{◌≡◌, sym, ap, ◌∙◌}
+use mathlib.Core.Path.{◌≡◌, refl, sym, ap, ◌∙◌}
 use Prim.Native.Nat.{◌*◌}
 use lib.ListN.{drop}
 use Rattle.cases.specs.Cases.{pattern, only}
@@ -10,7 +10,7 @@ use Rattle.batch.proofs.list.Goals as goal
 
 -- a listing that may not fit
 pub returns-then-out-a : goal.returns-then-out-a
-returns-then-out-a c = large_listed _ c.if-out-a.true c.last.ensures
+returns-then-out-a c = large_listed _ _ _ c.if-out-a.true refl
 
 -- what `untouched` answers is said of the table behind the events
 behind-events : (c : After-untouched) →
@@ -20,11 +20,10 @@ behind-events c = ap (only pattern) (sym (rest_is c.args.table.now _)) ∙ sym c
 
 -- a number behind the events was written
 pub returns-then-not-untouched : goal.returns-then-not-untouched
-returns-then-not-untouched c = let fits = c.if-out-a.false in
-    touched_listed _ fits (behind-events (goal.at.returns-then-not-untouched c).After-untouched ∙ c.if-not-untouched.true) c.last-then-not-untouched.ensures
+returns-then-not-untouched c =
+    touched_listed _ _ _ c.if-out-a.false (behind-events (goal.at.returns-then-not-untouched c).After-untouched ∙ c.if-not-untouched.true) refl
 
 -- none was
 pub returns : goal.returns
-returns c = let fits = c.if-out-a.false in
-    let room = c.requires.1 in
-    case_listed _ fits (behind-events (goal.at.returns c).After-untouched ∙ c.if-not-untouched.false) room c.append.ensures
+returns c =
+    case_listed _ _ _ c.if-out-a.false (behind-events (goal.at.returns c).After-untouched ∙ c.if-not-untouched.false) c.requires.1 c.append.ensures

@@ -1,20 +1,15 @@
 -- `batch::next` meets its contract, by what was read of the head. Assumes nothing.
-use Rattle.batch.specs.Batch.{unread, cut, end, headless}
-use Rattle.batch.proofs.Laws.{none_shown, behind_head}
+use mathlib.Core.Path.{refl}
+use Rattle.std.proofs.lemmas.Result.{err_from_is_err_and}
+use Rattle.batch.specs.Batch.{headless, behind}
 use Rattle.batch.proofs.next.Goals as goal
 
--- the input's end
-pub returns-then-n-eq0 : goal.returns-then-n-eq0
-returns-then-n-eq0 c = record { said = _; one = end; shows = none_shown _ }
-
--- no whole head
-pub returns-then-n-lt-HEAD : goal.returns-then-n-lt-HEAD
-returns-then-n-lt-HEAD c = record { said = _; one = headless cut; shows = c.last-then-n-lt-HEAD.ensures }
-
--- a failed read
-pub returns-in-Failed : goal.returns-in-Failed
-returns-in-Failed c = record { said = _; one = headless unread; shows = c.last.ensures }
+-- no head
+pub returns-in_err-head : goal.returns-in_err-head
+returns-in_err-head c = let left = err_from_is_err_and c.from_residual.result c.from_residual.ensures.1 in
+    rw (left.1, left.2) (record { said = _; one = headless c.in_err-head.ensures.head; shows = (refl, refl) })
 
 -- what stands behind a head
-pub returns-else-n-lt-HEAD : goal.returns-else-n-lt-HEAD
-returns-else-n-lt-HEAD c = behind_head _ c.fill.auto.buf c.head_of.ensures c.read_case.ensures
+pub returns : goal.returns
+returns c = let record-is = c.read_case.ensures in
+    record { said = record-is.said; one = behind c.in_ok-head.ensures.head record-is.one; shows = record-is.shows }

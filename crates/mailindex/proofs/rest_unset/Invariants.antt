@@ -1,11 +1,8 @@
--- `mailindex::rest_unset` meets its contract. The loop's invariant: the choices behind number i are not made. Assumes nothing.
+-- `mailindex::rest_unset` meets its contract. The loop's invariant: the choices from number i on are not made. Assumes nothing.
 use mathlib.Core.Path.{◌≡◌}
-use Prim.Native.Nat.{◌≤◌}
+use Prim.Native.Nat.{◌-◌, ◌≤◌}
 use Rattle.mailindex.specs.Exports.{unset}
 use Rattle.mailindex.proofs.rest_unset.Given as goal
 
 abbrev pub invariant-loop-i : goal.invariant-loop-i
-invariant-loop-i l = (l.i ≤ 7) × (unset l.choices 7 ≡ unset l.choices l.i)
-
-abbrev pub decreases-loop-i : goal.decreases-loop-i
-decreases-loop-i l = l.i
+invariant-loop-i l = (2 ≤ l.i) × (unset l.choices 7 ≡ unset l.choices (l.i - 1))

@@ -2,5 +2,5 @@
 use Rattle.maillist.proofs.Laws.{all_printed}
 use Rattle.maillist.proofs.run.Goals as goal
 
-pub returns-in-Bytes : goal.returns-in-Bytes
-returns-in-Bytes g c = all_printed _ _ _ _ c.in-Bytes.n c.fill.new.buf c.print.result c.fill.auto.buf c.in-Bytes.ensures.room c.in-Bytes.ensures.bytes c.print.ensures
+pub returns : goal.returns
+returns g c = all_printed _ _ _ _ c.in-Ok.n c.fill.new.buf c.print.result c.fill.auto.buf c.in-Ok.ensures.room c.in-Ok.ensures.bytes c.print.ensures

@@ -1,4 +1,5 @@
 -- `tap::answer_of` meets its contract, by the phase. Assumes nothing.
+use mathlib.Core.Logic.{inl, inr}
 use Rattle.phases.specs.Phasing.{state_of}
 use Rattle.rules.specs.Sessions.{result_of, place_of}
 use Rattle.windows.specs.Stands.{stand_result, stand_place}
@@ -11,21 +12,16 @@ pub returns-in-Over : goal.returns-in-Over
 unfolding state_of said stand_result stand_place result_of place_of
 returns-in-Over c = λ k u. rw c.in-Over.is
 
--- a literal: where it began
+-- a literal, a preamble or a part's content: where it began
 pub returns-in-Literal : goal.returns-in-Literal
 unfolding state_of said stand_result stand_place
-returns-in-Literal c = λ k u. rw (c.in-Literal.is, c.waiting.ensures)
-
--- a preamble: where it began
-pub returns-in-Preamble : goal.returns-in-Preamble
-unfolding state_of said stand_result stand_place
-returns-in-Preamble c = λ k u. rw (c.in-Preamble.is, c.waiting-in-Preamble.ensures)
-
--- a part's content: where it began
-pub returns-in-Content : goal.returns-in-Content
-unfolding state_of said stand_result stand_place
-returns-in-Content c = λ k u. rw (c.in-Content.is, c.waiting-in-Content.ensures)
+returns-in-Literal c = λ k u.
+    elim c.in-Literal.is [
+      | inl (e, left, q) ↦ rw (q, c.waiting-in-Literal.ensures)
+      | inr (inl (m, i, here, q)) ↦ rw (q, c.waiting-in-Literal.ensures)
+      | inr (inr (m, e, i, here, q)) ↦ rw (q, c.waiting-in-Literal.ensures)
+    ]
 
 -- any other read: here
 pub returns-in_default : goal.returns-in_default
-returns-in_default c = λ k u. rw c.waiting-in_default.ensures (waits_here _ c.in_default.not-Literal c.in_default.not-Preamble c.in_default.not-Content c.in_default.not-Over _ _ k u)
+returns-in_default c = λ k u. rw c.waiting.ensures (waits_here _ c.in_default.not-Literal c.in_default.not-Preamble c.in_default.not-Content c.in_default.not-Over _ _ k u)

@@ -26,11 +26,7 @@ at_most : (c : Else-not-sound) →
     c.args.at ≤ limit
 at_most c = within_limit (let a = c.args in session_with a.settings a.phase a.at a.log a.kept.now) (sound c)
 
--- it is over: nothing more is taken
-pub answered-requires : goal.answered-requires
-answered-requires c = omega (arith, at_most (goal.at.answered-requires c).Else-not-sound)
-
--- and the answer is as it was
+-- it is over: the answer is as it was
 pub returns-then-is_over : goal.returns-then-is_over
 returns-then-is_over c = let s = (let a = c.args in session_with a.settings a.phase a.at a.log a.kept.now) in
     let ok = sound (goal.at.returns-then-is_over c).Else-not-sound in
@@ -41,19 +37,12 @@ reads_on : (c : Else-is_over) →
     over (state_of s.boundaries s.phase) ≡ false
 reads_on c = sym (c.is_over.ensures (let a = c.args in session_with a.settings a.phase a.at a.log a.kept.now).boundaries) ∙ c.if-is_over.false
 
--- how much is left up to the limit
-pub overflow_sub-at : goal.overflow_sub-at
-overflow_sub-at c = omega (arith, at_most (goal.at.overflow_sub-at c).Else-not-sound)
-
--- past the limit: nothing is taken
-pub answered-requires-then-at-w : goal.answered-requires-then-at-w
-answered-requires-then-at-w c = omega (arith, at_most (goal.at.answered-requires-then-at-w c).Else-not-sound)
-
--- and the session is over
+-- past the limit: the session is over
 pub returns-then-at-w : goal.returns-then-at-w
 returns-then-at-w c = let s = (let a = c.args in session_with a.settings a.phase a.at a.log a.kept.now) in
     let ok = sound (goal.at.returns-then-at-w c).Else-not-sound in
-    rw ok (shows_long s ok (reads_on (goal.at.returns-then-at-w c).Else-is_over) (omega (arith, c.if-at-w.true, at_most (goal.at.returns-then-at-w c).Else-not-sound)) (c.answered-then-at-w.ensures s.settings s.boundaries))
+    rw ok (shows_long s ok (reads_on (goal.at.returns-then-at-w c).Else-is_over) (omega (arith, c.if-at-w.true, at_most (goal.at.returns-then-at-w c).Else-not-sound))
+    (c.answered-then-at-w.ensures s.settings s.boundaries))
 
 -- ---- a window that is read
 fits : (c : Else-at-w) →
@@ -66,14 +55,14 @@ fits c =
 
 -- it ends before the limit, and the record is one to go on from
 pub advance-spot-requires : goal.advance-spot-requires
-advance-spot-requires c = let long : length (let a = c.args in session_with a.settings a.phase a.at a.log a.kept.now).boundaries ≡ 648 = search rules in
-    (fits (goal.at.advance-spot-requires c).Else-at-w, sound_ready (let a = c.args in session_with a.settings a.phase a.at a.log a.kept.now) (sound (goal.at.advance-spot-requires c).Else-not-sound) long)
-
--- what is taken lies in the window
-pub answered-requires-2 : goal.answered-requires-2
-answered-requires-2 c = omega (arith, fits (goal.at.answered-requires-2 c).Else-at-w, c.advance-spot.ensures.is.within)
+advance-spot-requires c = let long : length (let a = c.args in session_with a.settings a.phase a.at a.log a.kept.now).boundaries ≡ 648 = search rules in (
+  fits (goal.at.advance-spot-requires c).Else-at-w,
+  sound_ready (let a = c.args in session_with a.settings a.phase a.at a.log a.kept.now)
+      (sound (goal.at.advance-spot-requires c).Else-not-sound) long,
+)
 
 -- the session goes on, or is over
 pub returns : goal.returns
 returns c = let ok = sound (goal.at.returns c).Else-not-sound in
-    rw ok (shows_read (let a = c.args in session_with a.settings a.phase a.at a.log a.kept.now) ok (reads_on (goal.at.returns c).Else-is_over) (fits (goal.at.returns c).Else-at-w) c.advance-spot.ensures (c.answered-2.ensures _ _))
+    rw ok (shows_read (let a = c.args in session_with a.settings a.phase a.at a.log a.kept.now) ok (reads_on (goal.at.returns c).Else-is_over)
+    (fits (goal.at.returns c).Else-at-w) c.advance-spot.ensures (c.answered-2.ensures _ _))

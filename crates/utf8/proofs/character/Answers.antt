@@ -1,16 +1,12 @@
--- `utf8::first` meets its contract. Assumes nothing.
-use mathlib.Core.Path.{ap, ◌∙◌}
-use native.Mathlib.Omega.{arith}
-use Rattle.reading.proofs.Words.{rest_is}
-use Rattle.utf8.specs.Utf8.{opened}
-use Rattle.utf8.proofs.Characters.{character_none, character_opened}
+-- `utf8::character` meets its contract, by whether there is a byte. Assumes nothing.
+use mathlib.Core.Path.{◌∙◌}
+use Rattle.utf8.specs.Utf8.{character}
+use Rattle.utf8.proofs.Characters.{character_none}
 use Rattle.utf8.proofs.character.Goals as goal
 
--- no byte
-pub returns-then-l-eq0 : goal.returns-then-l-eq0
-returns-then-l-eq0 c = character_none _ c.if-l-eq0.true
+pub returns-in_err-b : goal.returns-in_err-b
+returns-in_err-b c = c.from_residual.ensures ∙ character_none _ c.in_err-b.ensures.cases
 
--- by the first
 pub returns : goal.returns
-returns c = let l = c.args.l.now in
-    c.opened.ensures ∙ ap (opened _) (rest_is l 1) ∙ character_opened l (omega (arith, c.if-l-eq0.false))
+unfolding character
+returns c = rw c.in_ok-b.ensures.cases.0 c.opened.ensures

@@ -4,8 +4,8 @@ use lib.ListN.{length}
 use Rattle.utf8.proofs.Walks.{Ended}
 use Rattle.utf8.proofs.dark_end.Given as goal
 
-abbrev pub invariant-loop-at : goal.invariant-loop-at
-invariant-loop-at l = Ended l.l l.at l.end
+abbrev pub invariant-loop-c : goal.invariant-loop-c
+invariant-loop-c l = Ended l.l l.at l.end
 
-abbrev pub decreases-loop-at : goal.decreases-loop-at
-decreases-loop-at l = length l.l - l.at
+abbrev pub decreases-loop-c : goal.decreases-loop-c
+decreases-loop-c l = length l.l - l.at

@@ -1,34 +1,29 @@
-use mathlib.Core.Path.{sym, ap, ◌∙◌}
+use mathlib.Core.Path.{refl, sym, ap, ◌∙◌}
 use native.Mathlib.Omega.{arith}
 use Rattle.utf8.specs.Utf8.{dark_lead}
-use Rattle.utf8.proofs.Characters.{octets_some, character_at, none_at}
-use Rattle.utf8.proofs.Walks.{walked_none_yet, walked_on, walked_up_to, none_past, lead_on, lead_white, lead_none}
+use Rattle.utf8.proofs.Characters.{octets_some, some_inside, character_at}
+use Rattle.utf8.proofs.Walks.{walked_on, walked_up_to, walked_out, lead_on, lead_white}
 use Rattle.utf8.proofs.dark_lead.Goals as goal
 
 -- white space
 pub returns-then-is_space : goal.returns-then-is_space
-returns-then-is_space c = let here = character_at _ _ c.loop-at-test.true _ (sym c.character.ensures ∙ c.in-Of.is) in
-    walked_up_to c.loop-at.invariant (ap dark_lead here ∙ lead_white _ (sym c.is_space.ensures ∙ c.if-is_space.true) _)
+returns-then-is_space c =
+    let here = sym c.character.ensures ∙ c.in-Some.is in
+    let l = c.args.l.now in
+    let at = c.loop-c.at in
+    walked_up_to c.loop-c.invariant (ap dark_lead (character_at l at (some_inside l at _ here) _ here) ∙ lead_white _ (sym c.is_space.ensures ∙ c.if-is_space.true) _)
 
 -- another character
-pub loop-at-preserved : goal.loop-at-preserved
-loop-at-preserved c = walked_on c.loop-at.invariant _ _ c.octets_of-at.ensures c.loop-at-test.true (sym c.character.ensures ∙ c.in-Of.is)
-    (lead_on _ (sym c.is_space.ensures ∙ c.if-is_space.false))
+pub loop-c-preserved : goal.loop-c-preserved
+loop-c-preserved c = walked_on c.loop-c.invariant _ _ c.octets_of-at.ensures (sym c.character.ensures ∙ c.in-Some.is) (lead_on _ (sym c.is_space.ensures ∙ c.if-is_space.false))
 
 pub overflow_add-at : goal.overflow_add-at
-overflow_add-at c = omega (arith, (loop-at-preserved c).within)
+overflow_add-at c = omega (arith, (loop-c-preserved c).within)
 
-pub loop-at-smaller : goal.loop-at-smaller
-loop-at-smaller c = omega (arith, c.octets_of-at.ensures, octets_some c.in-Of.c, c.loop-at-test.true)
+pub loop-c-smaller : goal.loop-c-smaller
+loop-c-smaller c = omega (arith, c.octets_of-at.ensures, octets_some c.in-Some.c, (loop-c-preserved c).within)
 
--- none
-pub returns-in-Broken : goal.returns-in-Broken
-returns-in-Broken c = let none = none_at _ _ c.loop-at-test.true (sym c.character.ensures ∙ c.in-Broken.is) in
-    walked_up_to c.loop-at.invariant (lead_none none)
-
--- ---- the end
+-- none is left
 pub returns : goal.returns
-returns c = walked_up_to c.loop-at.invariant (lead_none (none_past _ _ c.loop-at-test.false))
-
-pub loop-at-init : goal.loop-at-init
-loop-at-init c = walked_none_yet _ _
+unfolding dark_lead
+returns c = walked_out c.loop-c.invariant refl (sym c.character.ensures ∙ c.in_default.is)

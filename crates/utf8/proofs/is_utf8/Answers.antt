@@ -1,27 +1,24 @@
-use mathlib.Core.Path.{sym, ◌∙◌}
+use mathlib.Core.Path.{refl, sym, ap, ◌∙◌}
+use Prim.Native.Nat.{ℕ}
+use lib.Dec.{eqb}
+use lib.ListN.{length}
 use native.Mathlib.Omega.{arith}
-use Rattle.utf8.proofs.Characters.{octets_some, none_at}
-use Rattle.utf8.proofs.Walks.{walked_none_yet, walked_on, size_on, utf8_not, utf8_all}
+use Rattle.utf8.specs.Utf8.{is_utf8, size}
+use Rattle.utf8.proofs.Characters.{octets_some}
+use Rattle.utf8.proofs.Walks.{walked_on, walked_out, size_on}
 use Rattle.utf8.proofs.is_utf8.Goals as goal
 
 -- a character
-pub loop-at-preserved : goal.loop-at-preserved
-loop-at-preserved c = walked_on c.loop-at.invariant _ _ c.octets_of-at.ensures c.loop-at-test.true (sym c.character.ensures ∙ c.in-Of.is) (size_on _)
+pub loop-c-preserved : goal.loop-c-preserved
+loop-c-preserved c = walked_on c.loop-c.invariant _ _ c.octets_of-at.ensures (sym c.character.ensures ∙ c.in-Some.is) (size_on _)
 
 pub overflow_add-at : goal.overflow_add-at
-overflow_add-at c = omega (arith, (loop-at-preserved c).within)
+overflow_add-at c = omega (arith, (loop-c-preserved c).within)
 
-pub loop-at-smaller : goal.loop-at-smaller
-loop-at-smaller c = omega (arith, c.octets_of-at.ensures, octets_some c.in-Of.c, c.loop-at-test.true)
+pub loop-c-smaller : goal.loop-c-smaller
+loop-c-smaller c = omega (arith, c.octets_of-at.ensures, octets_some c.in-Some.c, (loop-c-preserved c).within)
 
--- none
-pub returns-in-Broken : goal.returns-in-Broken
-returns-in-Broken c = let here = c.loop-at-test.true in
-    utf8_not c.loop-at.invariant here (none_at _ _ here (sym c.character.ensures ∙ c.in-Broken.is))
-
--- ---- the end
+-- none is left
 pub returns : goal.returns
-returns c = utf8_all c.loop-at.invariant c.loop-at-test.false
-
-pub loop-at-init : goal.loop-at-init
-loop-at-init c = walked_none_yet _ _
+unfolding is_utf8 size
+returns c = ap (λ (n : ℕ). eqb n (length c.args.l.now)) (walked_out c.loop-c.invariant refl (sym c.character.ensures ∙ c.in_default.is))

@@ -5,8 +5,8 @@ use Rattle.utf8.specs.Utf8.{size}
 use Rattle.utf8.proofs.Walks.{Walked}
 use Rattle.utf8.proofs.is_utf8.Given as goal
 
-abbrev pub invariant-loop-at : goal.invariant-loop-at
-invariant-loop-at l = Walked size l.l l.at
+abbrev pub invariant-loop-c : goal.invariant-loop-c
+invariant-loop-c l = Walked size l.l l.at
 
-abbrev pub decreases-loop-at : goal.decreases-loop-at
-decreases-loop-at l = length l.l - l.at
+abbrev pub decreases-loop-c : goal.decreases-loop-c
+decreases-loop-c l = length l.l - l.at

@@ -4,35 +4,35 @@ use Prim.Native.Nat.{◌+◌, ◌≤◌}
 use native.Mathlib.Omega.{arith}
 use lib.ListN.{length}
 use Rattle.reading.proofs.Words.{rest_is}
-use Rattle.reading.specs.declared.Place.TheVariants.{At}
+use Rattle.std.specs.Prelude.{Some}
 use Rattle.fields.specs.Common.{type_field, named, bare_name, typed, bare_parameter}
 use Rattle.fields.proofs.Bdrys.{named_room}
-use Rattle.fields.proofs.common.bare_parameter.Goals.{In-At}
+use Rattle.fields.proofs.common.bare_parameter.Goals.{In-Some}
 use Rattle.fields.proofs.common.bare_parameter.Goals as goal
 
-name-at : (c : In-At) →
-    named bare_name c.args.l.now ≡ At c.in-At.p
+name-at : (c : In-Some) →
+    named bare_name c.args.l.now ≡ Some c.in-Some.p
 unfolding named
-name-at c = rw rest_is at (sym c.find.ensures ∙ c.in-At.is)
+name-at c = rw rest_is at (sym c.find.ensures ∙ c.in-Some.is)
 
-name-room : (c : In-At) →
-    length type_field + c.in-At.p + length bare_name ≤ length c.args.l.now
+name-room : (c : In-Some) →
+    length type_field + c.in-Some.p + length bare_name ≤ length c.args.l.now
 name-room c = named_room bare_name _ _ (name-at c)
 
 pub overflow_add-p : goal.overflow_add-p
 overflow_add-p c = omega (arith, name-room c)
 
-pub overflow_add-p-in-At : goal.overflow_add-p-in-At
-overflow_add-p-in-At c = omega (arith, name-room c)
+pub overflow_add-p-in-Some : goal.overflow_add-p-in-Some
+overflow_add-p-in-Some c = omega (arith, name-room c)
 
 pub unquoted-requires : goal.unquoted-requires
 unquoted-requires c = name-room c
 
-pub returns-in-At : goal.returns-in-At
+pub returns-in-Some : goal.returns-in-Some
 unfolding bare_parameter
-returns-in-At c = rw (name-at (goal.at.returns-in-At c).In-At) (c.as_type.ensures ∙ ap typed c.unquoted.ensures)
+returns-in-Some c = rw (name-at (goal.at.returns-in-Some c).In-Some) (c.as_type.ensures ∙ ap typed c.unquoted.ensures)
 
 -- ---- it stands nowhere
-pub returns-in-Nowhere : goal.returns-in-Nowhere
+pub returns-in-None : goal.returns-in-None
 unfolding bare_parameter named
-returns-in-Nowhere c = rw (rw rest_is at (sym c.find.ensures ∙ c.in-Nowhere.is))
+returns-in-None c = rw (rw rest_is at (sym c.find.ensures ∙ c.in-None.is))

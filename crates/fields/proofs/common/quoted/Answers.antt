@@ -4,12 +4,10 @@ use Rattle.reading.proofs.Words.{rest_is}
 use Rattle.fields.specs.Common.{closed, quoted}
 use Rattle.fields.proofs.common.quoted.Goals as goal
 
--- it is
-pub returns-in-At : goal.returns-in-At
+pub returns : goal.returns
 unfolding quoted closed
-returns-in-At c = rw (rw rest_is at (sym c.find_byte.ensures ∙ c.in-At.is))
+returns c = rw (rw rest_is at (sym c.find_byte.ensures ∙ c.in_ok-len.was))
 
--- it is not
-pub returns-in-Nowhere : goal.returns-in-Nowhere
+pub returns-in_err-len : goal.returns-in_err-len
 unfolding quoted closed
-returns-in-Nowhere c = rw (rw rest_is at (sym c.find_byte.ensures ∙ c.in-Nowhere.is))
+returns-in_err-len c = rw (rw rest_is at (sym c.find_byte.ensures ∙ c.in_err-len.was)) c.from_residual.ensures

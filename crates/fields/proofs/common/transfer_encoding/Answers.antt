@@ -7,7 +7,8 @@ use lib.ListN.{length}
 use Rattle.reading.proofs.Words.{raised_long}
 use Rattle.reading.specs.Bytes.{raised, starts_with}
 use Rattle.fields.specs.Common.{encoding_named, encoding_field, behind_spaces, transfer_encoding}
-use Rattle.fields.specs.declared.runs.Run.TheVariants.{Spaces}
+use Rattle.fields.specs.Runs.{space}
+use Rattle.std.proofs.Common.{rules, tests}
 use Rattle.fields.proofs.Led.{run_room, run_rest}
 use Rattle.fields.proofs.common.transfer_encoding.Goals.{After-leading-name, Else-not-starts_with_any_case}
 use Rattle.fields.proofs.common.transfer_encoding.Goals as goal
@@ -22,7 +23,7 @@ spaces-inside : (c : After-leading-name) →
     length encoding_field + c.leading-name.result ≤ length c.args.l.now
 spaces-inside c =
     let field-opens : starts_with (raised encoding_field) (raised c.args.l.now) ≡ true = sym c.starts_with_any_case.ensures ∙ c.if-not-starts_with_any_case.false in
-    run_room Spaces c.args.l.now _ _ c.leading-name.ensures (raised_long encoding_field _ field-opens)
+    run_room space c.args.l.now _ _ (c.leading-name.ensures space (λ b r l e. search (rules, tests))) (raised_long encoding_field _ field-opens)
 
 -- ---- another field
 pub returns-then-not-starts_with_any_case : goal.returns-then-not-starts_with_any_case
@@ -38,7 +39,7 @@ overflow_add-name c = omega (arith, spaces-inside c)
 
 pub returns : goal.returns
 unfolding transfer_encoding behind_spaces
-returns c = rw (field-opens (goal.at.returns c).Else-not-starts_with_any_case) (c.encoding_named.ensures ∙ ap encoding_named (run_rest Spaces c.args.l.now (length encoding_field) _ c.leading-name.ensures))
+returns c = rw (field-opens (goal.at.returns c).Else-not-starts_with_any_case) (c.encoding_named.ensures ∙ ap encoding_named (run_rest space c.args.l.now (length encoding_field) _ (c.leading-name.ensures space (λ b r l e. search (rules, tests)))))
 
 pub slice_bounds-leading-start : goal.slice_bounds-leading-start
 slice_bounds-leading-start c = raised_long encoding_field _ (field-opens c)

@@ -5,18 +5,16 @@ use Rattle.fields.proofs.Behind.{counted_none, counted_some}
 use Rattle.fields.proofs.Texts.{tag_within}
 use Rattle.fields.proofs.imap.append.Goals as goal
 
--- no tag
-pub returns-then-n-eq0 : goal.returns-then-n-eq0
-unfolding is_append
-returns-then-n-eq0 c = counted_none _ c.tag-n.ensures append_follows (omega arith)
-
--- a tag
 pub slice_bounds-append_follows-count : goal.slice_bounds-append_follows-count
 slice_bounds-append_follows-count c = omega (arith, c.tag-n.ensures, tag_within c.args.l.now)
 
-pub returns : goal.returns
-unfolding is_append
-returns c = counted_some _ c.tag-n.ensures append_follows (omega arith) c.append_follows.ensures
-
 pub slice_bounds-append_follows-start : goal.slice_bounds-append_follows-start
 slice_bounds-append_follows-start c = omega (arith, c.tag-n.ensures, tag_within c.args.l.now)
+
+pub returns-then-n-gt0 : goal.returns-then-n-gt0
+unfolding is_append
+returns-then-n-gt0 c = counted_some _ c.tag-n.ensures append_follows (omega arith) c.append_follows.ensures
+
+pub returns-else-n-gt0 : goal.returns-else-n-gt0
+unfolding is_append
+returns-else-n-gt0 c = counted_none _ c.tag-n.ensures append_follows (omega arith)

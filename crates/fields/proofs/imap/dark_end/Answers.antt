@@ -1,32 +1,24 @@
-use mathlib.Core.Path.{◌≡◌, sym, ap, ◌∙◌}
-use mathlib.Core.Bool.{not}
-use Prim.Native.Nat.{◌-◌}
+-- `fields::imap::dark_end` meets its contract, by whether a byte is not white. Assumes nothing.
+use mathlib.Core.Path.{◌≡◌, sym, ◌∙◌}
 use native.Mathlib.Omega.{arith}
+use Rattle.std.proofs.Common.{rules, tests}
 use Rattle.fields.specs.Imap.{dark}
-use Rattle.fields.proofs.Last.{back_none_yet, back_on, back_through, back_through_none}
-use Rattle.fields.proofs.imap.dark_end.Goals.{After-is_white}
+use Rattle.fields.specs.Runs.{dark_byte, last_place, through}
+use Rattle.fields.proofs.Last.{last_inside}
+use Rattle.fields.proofs.imap.dark_end.Goals.{After-trailing}
 use Rattle.fields.proofs.imap.dark_end.Goals as goal
 
-pub bounds-l-last : goal.bounds-l-last
-bounds-l-last c = omega (arith, c.loop-n.invariant.within)
-
--- behind `is_white`: the byte before n is dark if it is not white
-dark-told : (c : After-is_white) →
-    dark c.args.l.now (c.loop-n.n - 1) ≡ not c.is_white.result
+last-told : (c : After-trailing) → c.trailing.result ≡ last_place (dark c.args.l.now) c.args.l.now
 unfolding dark
-dark-told c = ap not (sym c.is_white.ensures)
+last-told c = c.trailing.ensures dark_byte (λ b r l e. search (rules, tests))
 
--- it is dark
-pub returns-then-not-is_white : goal.returns-then-not-is_white
-returns-then-not-is_white c = back_through c.loop-n.invariant c.loop-n-test.true (dark-told (goal.at.returns-then-not-is_white c).After-is_white ∙ ap not c.if-not-is_white.true)
+pub overflow_add-result : goal.overflow_add-result
+overflow_add-result c = omega (arith, last_inside _ _ _ (sym (last-told (goal.at.overflow_add-result c).After-trailing) ∙ c.in-Some.is))
 
--- it is white: the search goes down
-pub loop-n-preserved : goal.loop-n-preserved
-loop-n-preserved c = back_on c.loop-n.invariant c.loop-n-test.true (dark-told (goal.at.loop-n-preserved c).After-is_white ∙ ap not c.if-not-is_white.false)
-
--- ---- all bytes are white
 pub returns : goal.returns
-returns c = back_through_none c.loop-n.invariant c.loop-n-test.false
+unfolding through
+returns c = rw (sym (last-told (goal.at.returns c).After-trailing) ∙ c.in-Some.is)
 
-pub loop-n-init : goal.loop-n-init
-loop-n-init c = back_none_yet _ _
+pub returns-in_default : goal.returns-in_default
+unfolding through
+returns-in_default c = rw (sym (last-told (goal.at.returns-in_default c).After-trailing) ∙ c.in_default.is)

@@ -23,7 +23,7 @@ returns-then-have-due c = overtaken c.loop-left.invariant c.loop-left-test.true 
 
 -- the other is far ahead
 pub returns-then-ahead-ge-FAR : goal.returns-then-ahead-ge-FAR
-returns-then-ahead-ge-FAR c = let low : Low 23 c.args.number.now = λ i. omega (arith, c.shared_slice_known-1.given i) in
+returns-then-ahead-ge-FAR c = let low : Low 23 c.args.number.now = λ i. omega (arith, c.type_inv.number i) in
     far_ahead c.loop-left.invariant c.loop-left-test.true (had (goal.at.returns-then-ahead-ge-FAR c).After-from_last) c.from_last-due.ensures low c.if-have-due.false c.if-ahead-ge-FAR.true
 
 -- neither

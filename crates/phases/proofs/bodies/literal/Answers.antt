@@ -12,7 +12,7 @@ use Rattle.phases.proofs.bodies.literal.Goals as goal
 -- they are not: all that are shown are taken
 pub returns-then-shown-left : goal.returns-then-shown-left
 unfolding state_of
-returns-then-shown-left c = let pre = c.requires in λ set k. literal_waits _ _ _ pre.1 c.if-shown-left.true pre.2
+returns-then-shown-left c = let pre = c.requires in λ set k. literal_waits _ _ _ pre.0 c.if-shown-left.true pre.1
 
 -- they are: the literal is listed, or the table is full
 pub returns : goal.returns

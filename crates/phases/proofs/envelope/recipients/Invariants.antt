@@ -6,8 +6,8 @@ use Rattle.windows.specs.Stands.{fresh}
 use Rattle.phases.proofs.Turning.{Looped}
 use Rattle.phases.proofs.envelope.recipients.Given as goal
 
-abbrev pub invariant-loop-o : goal.invariant-loop-o
-invariant-loop-o l = Looped l.settings l.w l.base l.at l.initial.table l.initial.n (fresh (reads recipient)) l.p l.table l.n
+abbrev pub invariant-loop-line : goal.invariant-loop-line
+invariant-loop-line l = Looped l.w.settings l.w.bytes.now l.w.base l.at l.initial.table l.initial.log (fresh (reads recipient)) l.p l.table l.log
 
-abbrev pub decreases-loop-o : goal.decreases-loop-o
-decreases-loop-o l = length l.w - l.p
+abbrev pub decreases-loop-line : goal.decreases-loop-line
+decreases-loop-line l = length l.w.bytes.now - l.p

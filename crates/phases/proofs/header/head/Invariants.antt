@@ -5,8 +5,9 @@ use Rattle.phases.specs.declared.Phase.TheVariants.{Head}
 use Rattle.phases.proofs.Heading.{HeadAt}
 use Rattle.phases.proofs.header.head.Given as goal
 
-abbrev pub invariant-loop-o : goal.invariant-loop-o
-invariant-loop-o l = HeadAt l.settings l.w l.base l.at l.initial.kept l.initial.table l.initial.log (Head l.mail l.initial.known l.level) l.mail l.known l.level l.kept l.p l.table l.log
+abbrev pub invariant-loop-e : goal.invariant-loop-e
+invariant-loop-e l = HeadAt l.w.settings l.w.bytes.now l.w.base l.at l.initial.kept l.initial.table l.initial.log (Head l.mail l.initial.known l.level)
+    l.mail l.known l.level l.kept l.p l.table l.log
 
-abbrev pub decreases-loop-o : goal.decreases-loop-o
-decreases-loop-o l = length l.w - l.p
+abbrev pub decreases-loop-e : goal.decreases-loop-e
+decreases-loop-e l = length l.w.bytes.now - l.p

@@ -1,5 +1,4 @@
--- `phases::parts::seek` meets its contract. The loop's invariant: what is left at p is what was left at first, and `may` says whether a delimiter may stand there.
--- Assumes nothing.
+-- `phases::parts::seek` meets its contract. The loop's invariant: what is left at p is what was left at first, and `may` says whether a delimiter may stand there. Assumes nothing.
 use Prim.Native.Nat.{◌-◌}
 use lib.ListN.{length}
 use Rattle.phases.proofs.Parting.{Passed}

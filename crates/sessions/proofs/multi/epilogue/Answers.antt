@@ -1,93 +1,62 @@
 use mathlib.Core.Path.{◌≡◌, sym, ◌∙◌}
 use native.Mathlib.Omega.{arith}
-use Rattle.fields.specs.Common.{part}
-use Rattle.reading.specs.Reading.{a_line}
-use Rattle.reads.specs.Clauses.{Ends}
+use Rattle.fields.specs.Common.{part, bytes_of}
 use Rattle.rules.specs.Mail.{last_line}
-use Rattle.rules.specs.Phases.{skipping, wants}
-use Rattle.sessions.specs.Walks.{piece}
-use Rattle.sessions.proofs.MailTurns.{read_as, skipping_last, skipping_on, skip_by_rest, skip_by_line, begun_on}
-use Rattle.sessions.proofs.Readings.{piece_part}
-use Rattle.sessions.proofs.Steps.{here, read_stop, walked}
-use Rattle.sessions.proofs.multi.epilogue.Goals.{After-last_line, In-To}
+use Rattle.rules.specs.Phases.{skipping, resting, wants}
+use Rattle.sessions.proofs.MailTurns.{read_as, skipping_last, skipping_on, resting_all, skip_by_rest, skip_by_line}
+use Rattle.sessions.proofs.Steps.{here, read_stop, walked, is_err}
+use Rattle.sessions.proofs.multi.epilogue.Goals.{After-last_line}
 use Rattle.sessions.proofs.multi.epilogue.Goals as goal
 
--- behind `line`'s answer `To(e)`: the line from p up to e
-line-to : (c : In-To) →
-    Ends a_line c.args.s.now c.loop-outer.p c.in-To.e
-line-to c = rw c.in-To.is at c.line.ensures
+-- ---- the literal's rest: it is skipped, and the search ends
+pub returns-in_err-end : goal.returns-in_err-end
+unfolding wants
+returns-in_err-end c = let a = c.args in
+    λ b os q t. rw (is_err _ c.from_residual.ensures.1) (walked (c.loop-outer.invariant.walks b os q t)
+    (rw (skip_by_rest a.s.bytes.now a.mail b os _ a.outer _ c.literal_rest-rest.ensures q c.requires.2 (omega arith) (omega arith))
+    (read_stop (resting a.mail b os _) c.in_err-end.ensures)))
 
--- ---- the invariant at first
-pub loop-outer-init : goal.loop-outer-init
-loop-outer-init c = let within = c.requires.1 in
-    record { on = omega arith; within = within; walks = λ b os q t. here _ within }
-
--- ---- the literal's rest
-pub literal_rest-rest-requires : goal.literal_rest-rest-requires
-literal_rest-rest-requires c = begun_on c.requires.2 c.loop-outer.invariant.on
-
-pub skip_rest-requires : goal.skip_rest-requires
-skip_rest-requires c = (c.loop-outer.invariant.within, omega arith)
-
--- it is skipped, and the search ends
 pub returns-then-rest-outer : goal.returns-then-rest-outer
+unfolding wants
 returns-then-rest-outer c = let a = c.args in
     λ b os q t. walked (c.loop-outer.invariant.walks b os q t)
-    (rw (skip_by_rest a.s.now a.mail b os _ a.outer _ c.literal_rest-rest.ensures q c.requires.3 (omega arith) c.if-rest-outer.true)
-    (c.skip_rest.ensures _ b os t))
+    (rw (skip_by_rest a.s.bytes.now a.mail b os _ a.outer _ c.literal_rest-rest.ensures q c.requires.2 (omega arith) (omega arith))
+    (read_as (resting a.mail b os _) c.in_ok-end.ensures (resting_all c.in_ok-end.ensures a.mail b os _) (here _ c.in_ok-end.ensures.within)))
 
--- ---- a line
-pub line-requires : goal.line-requires
-line-requires c = c.loop-outer.invariant.within
-
--- it is short
-pub returns-in-Stop : goal.returns-in-Stop
+-- ---- a line: it is short
+pub returns-in_err-end-2 : goal.returns-in_err-end-2
 unfolding wants
-returns-in-Stop c = λ b os q t. walked (c.loop-outer.invariant.walks b os q t)
-    (rw (skip_by_line c.args.s.now c.args.mail b os _ c.args.outer _ c.literal_rest-rest.ensures q c.requires.3 (λ h. omega arith)) (read_stop (skipping c.args.mail b os) (rw c.in-Stop.is at c.line.ensures) c.stopped.ensures))
-
--- the parts that `last_line` is handed: the line, and the outermost boundary
-pub slice_bounds-last_line-count : goal.slice_bounds-last_line-count
-slice_bounds-last_line-count c = omega (arith, (line-to c).on)
-
-pub slice_bounds-last_line-end : goal.slice_bounds-last_line-end
-slice_bounds-last_line-end c = (line-to c).within
-
-pub slice_bounds-last_line-end-in-To : goal.slice_bounds-last_line-end-in-To
-slice_bounds-last_line-end-in-To c = c.requires.3
+returns-in_err-end-2 c = let a = c.args in
+    λ b os q t. rw (is_err _ c.from_residual-in_err-end-2.ensures.1) (walked (c.loop-outer.invariant.walks b os q t)
+    (rw (skip_by_line a.s.bytes.now a.mail b os _ a.outer _ c.literal_rest-rest.ensures q c.requires.2 (λ h. omega arith))
+    (read_stop (skipping a.mail b os) c.in_err-end-2.ensures)))
 
 -- there: what was answered of the outermost boundary
 last : (c : After-last_line) →
     let a = c.args in
-    last_line a.mail (piece a.s.now a.outer) (part a.s.now c.loop-outer.p c.in-To.e) ≡ c.last_line.result
-last c = let a = c.args in
-    rw (piece_part a.s.now a.outer) at (sym c.last_line.ensures)
+    last_line a.mail (bytes_of a.s.bytes.now a.outer) (part a.s.bytes.now c.loop-outer.here.at c.in_ok-end-2.end) ≡ c.last_line.result
+last c = rw c.of.ensures at (sym c.last_line.ensures)
 
 -- it is the last one
 pub returns-then-last_line : goal.returns-then-last_line
 unfolding wants
-returns-then-last_line c = let mail = c.args.mail in
-    let line = line-to (goal.at.returns-then-last_line c).In-To in
+returns-then-last_line c = let a = c.args in
+    let line = c.in_ok-end-2.ensures in
     let told = last (goal.at.returns-then-last_line c).After-last_line ∙ c.if-last_line.true in
     λ b os q t. walked (c.loop-outer.invariant.walks b os q t)
-    (rw (skip_by_line c.args.s.now c.args.mail b os _ c.args.outer _ c.literal_rest-rest.ensures q c.requires.3 (λ h. omega arith)) (read_as (skipping mail b os) line (skipping_last line mail b os (rw q told)) (here _ line.within)))
+    (rw (skip_by_line a.s.bytes.now a.mail b os _ a.outer _ c.literal_rest-rest.ensures q c.requires.2 (λ h. omega arith))
+    (read_as (skipping a.mail b os) line (skipping_last line a.mail b os (rw q told)) (here _ line.within)))
 
 -- it is not: the search goes on behind it
-pub loop-outer-smaller : goal.loop-outer-smaller
-loop-outer-smaller c = let line = line-to (goal.at.loop-outer-smaller c).In-To in
-    omega (arith, line.on, line.within)
-
 pub loop-outer-preserved : goal.loop-outer-preserved
 unfolding wants
-loop-outer-preserved c = let mail = c.args.mail in
-    let line = line-to (goal.at.loop-outer-preserved c).In-To in
+loop-outer-preserved c = let a = c.args in
+    let line = c.in_ok-end-2.ensures in
     let told = last (goal.at.loop-outer-preserved c).After-last_line ∙ c.if-last_line.false in
     record {
       on = omega (arith, c.loop-outer.invariant.on, line.on);
       within = line.within;
       walks = λ b os q t. walked (c.loop-outer.invariant.walks b os q t)
-          (rw (skip_by_line c.args.s.now c.args.mail b os _ c.args.outer _ c.literal_rest-rest.ensures q c.requires.3 (λ h. omega arith)) (read_as (skipping mail b os) line (skipping_on line mail b os (rw q told)) (here _ line.within)));
+          (rw (skip_by_line a.s.bytes.now a.mail b os _ a.outer _ c.literal_rest-rest.ensures q c.requires.2 (λ h. omega arith))
+          (read_as (skipping a.mail b os) line (skipping_on line a.mail b os (rw q told)) (here _ line.within)));
     }
-
-pub slice_bounds-last_line-start : goal.slice_bounds-last_line-start
-slice_bounds-last_line-start c = omega (arith, (line-to c).on)
