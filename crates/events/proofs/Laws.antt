@@ -9,10 +9,7 @@ use native.Mathlib.Numerals.{add-one, add-two, add-three}
 use native.Mathlib.Omega.{arith}
 use lib.ListN.{length, take, drop, set}
 use lib.Seq.{length-sets, take-set-le, drop-set-lt}
-use borrow.Rule.Slice.PartMut.{put_mid}
 use borrow.Author.Tests.{lt-ltb, le-ltb, ltb-true}
-use Rattle.std.proofs.lemmas.List.Edits.{sets-eq}
-use Rattle.std.proofs.lemmas.Slice.{put_mid-paste}
 use Rattle.events.specs.Events.{width, numbers}
 use Rattle.events.specs.Table.{slots, store, free, no_events, counted, Poured, all, full, pour, Final, final, finish, Puts}
 use Rattle.events.specs.declared.Event.{Event}
@@ -22,7 +19,7 @@ use Rattle.events.specs.declared.Outcome.{Outcome}
 
 -- ---- one store
 module _ (t : List ℕ) (n : ℕ) (e : Event) where
-  -- number by number
+  -- as the code writes it
   pub store_is : store t n e ≡ set (set (set (set t (n * 4) e.kind) (n * 4 + 1) e.offset) (n * 4 + 2) e.length) (n * 4 + 3) e.encoding
   unfolding store
   store_is = rw (add-one, add-two, add-three)
@@ -41,14 +38,12 @@ module _ (t : List ℕ) (n : ℕ) (e : Event) where
   store_behind k h =
       drop-set-lt k _ _ _ (omega arith) ∙ drop-set-lt k _ _ _ (omega arith) ∙ drop-set-lt k _ _ _ (omega arith) ∙ drop-set-lt k t _ _ (omega arith)
 
--- ---- one event: the code copies its numbers where there is a slot, and nothing where there is none
-copied_is : (t : List ℕ) (n : ℕ) (e : Event) (k : ℕ) (ys : List ℕ) → n < slots t → k ≡ width → ys ≡ numbers e → put_mid (n * width) k t ys ≡ store t n e
-unfolding store
-copied_is t n e k ys h w q = put_mid-paste (n * width) k t ys (numbers e) width q (sym w) refl ∙ sym (sets-eq (numbers e) t (n * width) (omega arith))
-
+-- ---- one event: the code's four stores where there is a slot, and nothing where there is none
 module _ (t : List ℕ) (log : Log) (e : Event) where
-  pub put_written : (k : ℕ) (ys : List ℕ) → log.count < slots t → k ≡ width → ys ≡ numbers e → Puts t log e (Some (counted log)) (put_mid (log.count * width) k t ys)
-  put_written k ys h w q = let i = lt-ltb log.count (slots t) h in record { answer = rw i; table = rw i (copied_is t log.count e k ys h w q) }
+  pub put_written : log.count < slots t
+      → Puts t log e (Some (counted log))
+      (set (set (set (set t (log.count * 4) e.kind) (log.count * 4 + 1) e.offset) (log.count * 4 + 2) e.length) (log.count * 4 + 3) e.encoding)
+  put_written h = let i = lt-ltb log.count (slots t) h in record { answer = rw i; table = rw i (sym (store_is t log.count e)) }
 
   pub put_full : slots t ≤ log.count → Puts t log e None t
   put_full h = let i = le-ltb log.count (slots t) h in record { answer = rw i; table = rw i }

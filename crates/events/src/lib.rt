@@ -95,15 +95,18 @@ pub fn encoding_number(e: Encoding) -> u32
     e as u32
 }
 
-// The only function that stores: the event goes to the next slot, if there is one.
-#[tactic(auto, using(crate::proofs::Laws::put_full))]
+// The only function that stores: the event goes to the next slot, if there is one. Four stores: a copied slice is asked whether it overlaps.
+#[tactic(auto, using(crate::proofs::Laws::put_written, crate::proofs::Laws::put_full))]
 pub fn put(table: &mut [u32], log: Log, e: Event) -> Option<Log>
     ensures { Puts table.old log e result table.new }
 {
     let n = log.count;
     if n < table.len() / WIDTH {
         let i = n * WIDTH;
-        table[i..i + WIDTH].copy_from_slice(&[e.kind, e.offset, e.length, e.encoding]);
+        table[i] = e.kind;
+        table[i + 1] = e.offset;
+        table[i + 2] = e.length;
+        table[i + 3] = e.encoding;
         return Some(Log { count: n + 1 });
     }
     None
