@@ -1,3 +1,4 @@
 pub mod Tags
 pub mod Sides
 pub mod Cases
+pub mod Payloads

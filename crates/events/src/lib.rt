@@ -76,17 +76,24 @@ pub struct Answer {
 
 impl Event {
     // Its places lie inside a buffer within the size limit.
-    pub fn new(kind: Kind, offset: usize, length: usize, encoding: Encoding) -> Self
+    pub fn new(kind: u32, offset: usize, length: usize, encoding: Encoding) -> Self
         requires { (offset ≤ 16777216) × (length ≤ 16777216) }
-        ensures { result ≡ ev (kind_number kind) offset length encoding }
+        ensures { result ≡ ev kind offset length encoding }
     {
         Self {
-            kind: kind as u32,
+            kind,
             offset: offset as u32,
             length: length as u32,
             encoding: encoding_number(encoding),
         }
     }
+}
+
+// Document 01's number of a kind.
+pub fn kind_number(k: Kind) -> u32
+    ensures { result ≡ kind_number k }
+{
+    k as u32
 }
 
 pub fn encoding_number(e: Encoding) -> u32

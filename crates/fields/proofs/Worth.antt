@@ -66,3 +66,21 @@ worth_or_zero max n = rw (below_is n max) (either (leb n max))
     either : (t : Bool) → unwrap_or (cond t (Some n) None) 0 ≡ cond t n 0
     either true = refl
     either false = refl
+
+-- ---- what the answer says
+worth_if : (t : Bool) (n : ℕ) {m : ℕ} → cond t (Some n) None ≡ Some m → t ≡ true
+worth_if true n e = refl
+worth_if false n e = cc
+
+too_big_if : (t : Bool) (n : ℕ) → cond t (Some n) None ≡ None → t ≡ false
+too_big_if true n e = cc
+too_big_if false n e = refl
+
+module _ (max n : ℕ) where
+  pub worth_low : {m : ℕ} → up_to max n ≡ Some m → leb n max ≡ true
+  unfolding up_to
+  worth_low e = worth_if (leb n max) n e
+
+  pub too_big : up_to max n ≡ None → leb n max ≡ false
+  unfolding up_to
+  too_big e = too_big_if (leb n max) n e

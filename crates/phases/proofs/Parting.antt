@@ -434,3 +434,16 @@ module _ {w : List ℕ} {p : ℕ} (n : ℕ) (h : p ≤ length w) where
   bytes_end l =
       let z : p + (n + 1) ≡ p + n + 1 = omega arith in
       subst (Ends (bytes n) w p) z (ends_at (bytes n) w p (n + 1) h (rw (lt-ltb n (length (drop p w)) (omega (arith, length-drop p w)))))
+
+-- ---- behind a close: r is the literal's rest, if it is below n, else 0
+module _ (m : Mail) (b : List ℕ) (os : List (List ℕ)) (n : ℕ) (l : n ≡ length (outermost b os)) where
+  pub by_rest_lem : (x r : ℕ) → r ≡ cond (ltb x n) x 0 → 0 < r → by_rest m b os x ≡ reads (phase.resting m b os (r - 1))
+  unfolding by_rest
+  by_rest_lem zero r e h = absurd (by_test (ltb 0 n) (λ t. let z : r ≡ 0 = e ∙ rw t in omega arith) (λ t. let z : r ≡ 0 = e ∙ rw t in omega arith))
+  by_rest_lem (suc x) r e h =
+      by_test (ltb (suc x) n)
+      (λ t.
+      let z : r ≡ suc x = e ∙ rw t in
+      let y : r - 1 ≡ x = omega arith in
+      rw (← l, t, y))
+      (λ t. let z : r ≡ 0 = e ∙ rw t in absurd (omega arith))

@@ -108,7 +108,8 @@ pub fn note(
     requires { (offset ≤ limit) × (length ≤ limit) }
     ensures { Notes table.old log (ev (kind_number kind) offset length encoding ∷ []) result table.new }
 {
-    let event = Event::new(kind, offset, length, encoding);
+    let number = events::kind_number(kind);
+    let event = Event::new(number, offset, length, encoding);
     events::put(table, log, event).ok_or(stopped(Outcome::TableFull, offset, log))
 }
 

@@ -4,3 +4,4 @@ pub mod Below
 pub mod Walks
 pub mod Encoded
 mod Cases
+pub mod Spaces
