@@ -2,14 +2,14 @@
 -- Assumes nothing.
 use mathlib.Core.Path.{◌≡◌, refl, sym, ap, subst, ◌∙◌}
 use mathlib.Core.Bool.{Bool, true, false, cond}
-use mathlib.Core.List.{List, [], ◌∷◌}
+use mathlib.Core.List.{List, [], ◌∷◌, ◌++◌}
 use mathlib.Core.Logic.{◌⊎◌, inl, inr}
 use Prim.Native.Nat.{ℕ, zero, suc, ◌+◌, ◌-◌, ◌*◌, ◌≤◌, ◌<◌, min}
 use native.Mathlib.Numerals.{add-one}
 use native.Mathlib.Omega.{arith}
 use lib.Dec.{eqb, leb, ltb}
-use lib.ListN.{length, take, drop, get_or, set, length-set, length-take, length-drop}
-use lib.Seq.{take-set-le, drop-set-lt, get_or-set_same, get_or-set_other, take_all, drop-drop, get_or-drop}
+use lib.ListN.{length, take, drop, get_or, set, length-set, length-drop}
+use lib.Seq.{take-suc, take-suc-set, take-set-le, drop-set-add, drop-set-lt, get_or-set_same, get_or-set_other, take_all, drop-drop, get_or-drop}
 use borrow.Author.Tests.{eqb-true, eqb-false, ne_eqb, leb-true, leb-false, ltb-true, ltb-false, lt-ltb, le-ltb}
 use Rattle.events.specs.Events.{part_body}
 use Rattle.events.specs.Table.{pour}
@@ -23,10 +23,7 @@ use Rattle.reading.proofs.Words.{rest_is}
 use Rattle.reading.specs.Blocks.{Last}
 use Rattle.reading.specs.Bytes.{holds, starts_with, same, ends_with, first_place}
 use Rattle.reading.specs.Reading.{crlf, dash, delimits, a_line, bytes, delimiter, past, reach, Got, got, short, parted, fetch}
-use borrow.Rule.Slice.PartMut.{put_mid}
 use Rattle.std.proofs.lemmas.Option.{none-some, cond_some}
-use Rattle.std.proofs.lemmas.Slice.{between-put_mid, take-put_mid_below}
-use Rattle.std.proofs.lemmas.List.{places}
 use Rattle.std.specs.Prelude.{Option, Some, None, Ok}
 use Rattle.reads.proofs.Laws.{ends_at, stops_at}
 use Rattle.reads.specs.Clauses.{Ends, Stops, Pair, NoPair, TwoIs, Begins}
@@ -53,29 +50,50 @@ use Rattle.phases.specs.declared.Heard.{Heard}
 use Rattle.phases.specs.declared.Phase.{Phase}
 use Rattle.phases.specs.declared.Phase.TheVariants as is
 
--- ---- a boundary is copied
+-- ---- a boundary is copied byte by byte: j of its n bytes so far
+pub record Copying (k : List ℕ) (i : ℕ) (b : List ℕ) (n j : ℕ) (k' : List ℕ) : Type 0 where
+  pub within : j ≤ n
+  pub long : length k' ≡ length k
+  pub front : take (i * 72) k' ≡ take (i * 72) k
+  pub so : take j (drop (i * 72 + 1) k') ≡ take j b
+  pub lengths : (x : ℕ) → get_or k' (x * 72) 0 ≡ get_or k (x * 72) 0
+
+pub none_copied : {k : List ℕ} {i : ℕ} {b : List ℕ} {n : ℕ} → Copying k i b n 0 k
+none_copied = record { within = omega arith; long = refl; front = refl; so = refl; lengths = λ x. refl }
+
 short_take : (b : List ℕ) (n : ℕ) → n ≡ min (length b) 71 → take n b ≡ take 71 b
 short_take b n h =
     by_test (ltb (length b) 71)
     (λ t. take_all n b (omega (arith, ltb-true (length b) 71 t)) ∙ sym (take_all 71 b (omega (arith, ltb-true (length b) 71 t))))
     (λ t. let e : n ≡ 71 = omega (arith, ltb-false (length b) 71 t) in rw e)
 
-pub kept_all : {k b ys : List ℕ} (i n m o : ℕ) → i * 72 + 72 ≤ length k → n ≡ min (length b) 71 → m ≡ n → o ≡ i * 72 → ys ≡ take n b
-    → Kept k i b (set (put_mid (i * 72 + 1) m k ys) o n)
-kept_all {k} {b} {ys} i n m o room h e z q =
-    let s = put_mid (i * 72 + 1) n k ys in
-    let long : length ys ≡ n = ap length q ∙ length-take n b ∙ (let x : min n (length b) ≡ n = omega arith in x) in
-    let size : length s ≡ length k = grind (arith, places, long, room) in
-    let first : i * 72 < length s = omega arith in
-    let j : i * 72 + 1 + n - (i * 72 + 1) ≡ n = omega arith in
-    let is : take n (drop (i * 72 + 1) s) ≡ ys = rw j at (between-put_mid (i * 72 + 1) n k ys (i * 72 + 1 + n) (omega arith) (omega arith)) in
-    rw (e, z) (record {
-      long = length-set s (i * 72) n ∙ size;
-      front = take-set-le (i * 72) s (i * 72) n (omega arith) ∙ take-put_mid_below (i * 72 + 1) n k ys (i * 72) (omega arith) (omega arith);
-      is = rw (get_or-set_same s (i * 72) n 0 first, drop-set-lt (i * 72 + 1) s (i * 72) n (omega arith)) (is ∙ q ∙ short_take b n h);
-      own = rw (get_or-set_same s (i * 72) n 0 first) (omega arith);
-      others = λ x g. get_or-set_other s (i * 72) (x * 72) n 0 (λ q'. g (omega arith)) ∙ grind (arith, places, long, room, g);
-    })
+module _ {k : List ℕ} {i : ℕ} {b : List ℕ} {n : ℕ} {j : ℕ} {k' : List ℕ} (room : i * 72 + 72 ≤ length k) (clip : n ≡ min (length b) 71)
+    (c : Copying k i b n j k') where
+  pub copied_on : j < n → Copying k i b n (j + 1) (set k' (i * 72 + 1 + j) (get_or b j 0))
+  copied_on h = record {
+    within = omega arith;
+    long = length-set k' (i * 72 + 1 + j) (get_or b j 0) ∙ c.long;
+    front = take-set-le (i * 72) k' (i * 72 + 1 + j) (get_or b j 0) (omega arith) ∙ c.front;
+    so =
+        let l = drop (i * 72 + 1) k' in
+        let o : j < length l = omega (arith, length-drop (i * 72 + 1) k', c.long) in
+        let e : take (suc j) (set l j (get_or b j 0)) ≡ take (suc j) b =
+        take-suc-set l j (get_or b j 0) o ∙ ap (λ (x : List ℕ). x ++ (get_or b j 0 ∷ [])) c.so ∙ sym (take-suc b j 0 (omega arith)) in
+        rw (drop-set-add (i * 72 + 1) k' j (get_or b j 0), add-one) e;
+    lengths = λ x. get_or-set_other k' (i * 72 + 1 + j) (x * 72) (get_or b j 0) 0 (λ q. absurd (omega arith)) ∙ c.lengths x;
+  }
+
+  -- all of them, and the length before them
+  pub copied_all : n ≤ j → (o : ℕ) → o ≡ i * 72 → Kept k i b (set k' o n)
+  copied_all h o z =
+      let q : j ≡ n = omega (arith, c.within) in
+      rw z (record {
+        long = length-set k' (i * 72) n ∙ c.long;
+        front = take-set-le (i * 72) k' (i * 72) n (omega arith) ∙ c.front;
+        is = rw (get_or-set_same k' (i * 72) n 0 (omega (arith, c.long)), drop-set-lt (i * 72 + 1) k' (i * 72) n (omega arith)) (rw q at c.so ∙ short_take b n clip);
+        own = rw (get_or-set_same k' (i * 72) n 0 (omega (arith, c.long))) (omega arith);
+        others = λ x g. get_or-set_other k' (i * 72) (x * 72) n 0 (λ q'. g (omega arith)) ∙ c.lengths x;
+      })
 
 -- ---- copies that are kept
 pub outermost_slot : (k : List ℕ) (i : ℕ) → outermost (slot k i) (outside k i) ≡ slot k 0

@@ -13,7 +13,9 @@ pub fn keep(kept: &mut [u8], level: usize, b: &[u8])
 {
     let n = b.len().min(LONGEST + 1);
     let first = level * SLOT + 1;
-    kept[first..first + n].copy_from_slice(&b[..n]);
+    for j in 0..n {
+        kept[first + j] = b[j];
+    }
     kept[first - 1] = n as u8;
 }
 
