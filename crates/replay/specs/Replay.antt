@@ -11,6 +11,7 @@ use Rattle.rules.specs.declared.Entry.{Entry}
 use Rattle.events.specs.Events.{result_number}
 use Rattle.events.specs.Table.{Final}
 use Rattle.replay.specs.declared.Case.{Case}
+use Rattle.replay.specs.declared.Counts.{Counts}
 use Rattle.replay.specs.declared.Replayed.{Replayed}
 
 -- ---- comparisons
@@ -69,6 +70,10 @@ next_of letter None = Err Broken
 -- one more in the group, modulo 2^64, if there is such a group
 unfoldable pub counted_in : List ℕ → ℕ → List ℕ
 counted_in groups g = cond (nat_lt g (length groups)) (slice_set groups g ((slice_index groups g + 1) % 2 ^ 64)) groups
+
+-- one case more, and one difference more unless its answers are the same, modulo 2^64
+unfoldable pub with_case : Counts → Case → Counts
+with_case n c = record { cases = (n.cases + 1) % 2 ^ 64; differences = (n.differences + cond c.same 0 1) % 2 ^ 64; broken = n.broken }
 
 -- where a record may begin: no head, or one and what stands behind it
 pub data OfFile (bytes events : List ℕ) : Result Case Ending → Type 0 where

@@ -5,7 +5,7 @@
 
 ghost use Rattle.std.specs.Prelude.{◌≡◌, ◌*◌, ◌≤◌, length, IfSome};
 ghost use Rattle.events.specs.Table.{final_of};
-ghost use Rattle.replay.specs.Replay.{agree, OfDirection, OfSession, OfRecord, OfFile, index_of, letter_of, group_of, counted_in};
+ghost use Rattle.replay.specs.Replay.{agree, OfDirection, OfSession, OfRecord, OfFile, index_of, letter_of, group_of, counted_in, with_case};
 
 use cases::{Ending, Head};
 use events::Answer;
@@ -52,6 +52,27 @@ struct Counts {
     broken: bool,
 }
 
+impl Counts {
+    // With one case more.
+    #[tactic(auto, unfolding(crate::specs::Replay::with_case))]
+    fn with(self, case: Case) -> Self
+        ensures { result ≡ with_case self case }
+    {
+        let differing = if case.same { 0 } else { 1 };
+        Counts {
+            cases: self.cases.wrapping_add(1),
+            differences: self.differences.wrapping_add(differing),
+            ..self
+        }
+    }
+
+    fn ended(self, broken: bool) -> Self
+        ensures { (result.cases ≡ self.cases) × (result.differences ≡ self.differences) × (result.broken ≡ broken) }
+    {
+        Counts { broken, ..self }
+    }
+}
+
 fn main(rt: HostRuntime) -> io::Result<()> {
     let mut file = File::open(&rt, "cases.bin")?;
     let mut bytes = [0u8; BYTES];
@@ -80,15 +101,9 @@ fn replay(
         match next_case(file, bytes, events, table) {
             Ok(case) => {
                 count(groups, case.group);
-                counts.cases = counts.cases.wrapping_add(1);
-                if !case.same {
-                    counts.differences = counts.differences.wrapping_add(1);
-                }
+                counts = counts.with(case);
             }
-            Err(ending) => {
-                counts.broken = ending != Ending::End;
-                return counts;
-            }
+            Err(ending) => return counts.ended(ending != Ending::End),
         }
     }
     counts
@@ -229,10 +244,14 @@ fn print_groups(out: &mut Stdout, groups: &[u64]) -> io::Result<()> {
     Ok(())
 }
 
+// A line is one write.
 fn print_group(out: &mut Stdout, g: usize, n: u64) -> io::Result<()> {
-    let letter = letter_of(g / RESULTS) as char;
-    let result = g % RESULTS;
-    writeln!(out, "{letter} {result} {n}")
+    let mut text = [0u8; 64];
+    text[0] = letter_of(g / RESULTS);
+    text[1] = b' ';
+    let result = listing::word(&mut text, 2, (g % RESULTS) as u64, b' ');
+    let end = listing::word(&mut text, result, n, b'\n');
+    out.write_all(&text[..end])
 }
 
 #[tactic(auto, unfolding(crate::specs::Replay::letter_of))]
