@@ -9,7 +9,10 @@ use native.Mathlib.Omega.{arith}
 use lib.Dec.{eqb}
 use lib.ListN.{length, take, drop, get_or, drop_of_length-le, length-drop, length-map}
 use lib.Seq.{drop-cons, take_all}
-use borrow.Author.Tests.{eqb-true}
+use borrow.Author.Tests.{eqb-true, eq-eqb, ne_eqb}
+use Rattle.std.proofs.lemmas.List.FromFn.{length-range_with_len, get_or-range_with_len}
+use Rattle.std.specs.Bool.{MatchBool}
+use Rattle.std.specs.List.{range_with_len, AllWithin, HoldsAt}
 use Rattle.classes.specs.Classes.{upper_of}
 use Rattle.reading.specs.Bytes.{starts_with, same, raised}
 
@@ -79,3 +82,34 @@ raised_long w l e = omega (arith, starts_long (raised w) (raised l) e, raised_le
 
 pub raised_rest : (w l : List ℕ) (p : ℕ) → starts_with w (drop p (raised l)) ≡ starts_with w (raised (take (length l - p) (drop p l)))
 raised_rest w l p = ap (starts_with w) (raised_drop l p ∙ ap raised (sym (rest_is l p)))
+
+-- what is compared byte by byte, as many as w has
+pub opens_raised : (w l : List ℕ) → length w ≤ length l → ((k : ℕ) → k < length w → upper_of (get_or l k 0) ≡ upper_of (get_or w k 0)) → starts_with (raised w) (raised l) ≡ true
+unfolding starts_with raised
+opens_raised [] l n h = refl
+opens_raised (x ∷ w) [] n h = absurd (omega arith)
+opens_raised (x ∷ w) (y ∷ l) n h = rw (eq-eqb (upper_of y) (upper_of x) (h 0 (omega arith))) (opens_raised w l (omega arith) (λ k g. h (suc k) (omega arith)))
+
+pub differs_raised : (w l : List ℕ) (k : ℕ) → k < length w → length w ≤ length l → (upper_of (get_or l k 0) ≡ upper_of (get_or w k 0) → ⊥) → starts_with (raised w) (raised l) ≡ false
+unfolding starts_with raised
+differs_raised [] l k g n h = absurd (omega arith)
+differs_raised (x ∷ w) [] k g n h = absurd (omega arith)
+differs_raised (x ∷ w) (y ∷ l) zero g n h = rw (ne_eqb (upper_of y) (upper_of x) h)
+differs_raised (x ∷ w) (y ∷ l) (suc k) g n h = rw (differs_raised w l k (omega arith) (omega arith) h, and_off (eqb (upper_of y) (upper_of x)))
+  where
+    and_off : (b : Bool) → (b && false) ≡ false
+    and_off true = refl
+    and_off false = refl
+
+range_at : (n k : ℕ) → k < n → get_or (range_with_len 0 n) k 0 ≡ k
+range_at n k h = get_or-range_with_len 0 n k 0 h ∙ let e : 0 + k ≡ k = omega arith in e
+
+-- what `all` answers over the places of w
+pub all_alike : (w l : List ℕ) (r : Bool) → length w ≤ length l
+    → MatchBool r (AllWithin (λ k. upper_of (get_or l k 0) ≡ upper_of (get_or w k 0)) (range_with_len 0 (length w)) 0 (length (range_with_len 0 (length w))))
+    ((k : ℕ) × (k < length (range_with_len 0 (length w))) × HoldsAt (λ k. upper_of (get_or l k 0) ≡ upper_of (get_or w k 0) → ⊥) (range_with_len 0 (length w)) k)
+    → r ≡ starts_with (raised w) (raised l)
+all_alike w l true n h = sym (opens_raised w l n (λ k g. rw (range_at (length w) k g) at (h k 0 (omega arith) (omega (arith, length-range_with_len 0 (length w))))))
+all_alike w l false n (k, g, h) =
+    let b : k < length w = omega (arith, length-range_with_len 0 (length w)) in
+    sym (differs_raised w l k b n (rw (range_at (length w) k b) at (h 0)))

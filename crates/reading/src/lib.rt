@@ -138,11 +138,11 @@ pub fn starts_with(l: &[u8], w: &[u8]) -> bool
 }
 
 // Whether l opens with the word w in any case.
-#[tactic(auto, using(crate::proofs::Library::opens_alike, crate::proofs::Library::short_alike))]
+#[tactic(auto, using(crate::proofs::Library::short_alike))]
 pub fn starts_with_any_case(l: &[u8], w: &[u8]) -> bool
     ensures { result ≡ starts_with (raised w.now) (raised l.now) }
 {
-    w.len() <= l.len() && equals_any_case(&l[..w.len()], w)
+    w.len() <= l.len() && (0..w.len()).all(|k| classes::upper(l[k]) == classes::upper(w[k]))
 }
 
 // Whether l is the word w.
@@ -157,7 +157,7 @@ pub fn equals(l: &[u8], w: &[u8]) -> bool
 pub fn equals_any_case(l: &[u8], w: &[u8]) -> bool
     ensures { result ≡ same (raised w.now) (raised l.now) }
 {
-    l.eq_ignore_ascii_case(w)
+    l.len() == w.len() && starts_with_any_case(l, w)
 }
 
 // Whether l ends with the word w.
