@@ -9,7 +9,9 @@ use lib.Dec.{ltb}
 use lib.ListN.{length}
 use borrow.Author.Tests.{ltb-true, ltb-false}
 use Rattle.reading.proofs.Places.{at_same, by_test}
+use Rattle.std.specs.Option.{SomeIff}
 use Rattle.std.specs.Prelude.{Option, Some, None}
+use Rattle.reading.specs.Blocks.{Last}
 use Rattle.fields.specs.Runs.{last, last_place, through}
 
 -- ---- a search that has come down to n: the last of the first n places is the last place
@@ -41,6 +43,29 @@ module _ {test : ℕ → Bool} {l : List ℕ} {n : ℕ} (b : Back test l n) wher
   back_in_vain h =
       let m : n ≡ 0 = omega arith in
       sym b.is ∙ ap (last test) m
+
+-- ---- by the place behind it, as `behind_last` of reading answers
+module _ (test : ℕ → Bool) where
+  last_is : (n p : ℕ) → p < n → test p ≡ true → ((k : ℕ) → p < k → k < n → test k ≡ false) → last test n ≡ Some p
+  unfolding last
+  last_is zero p h t none = absurd (omega arith)
+  last_is (suc n) p h t none =
+      by_test (ltb p n)
+      (λ s. rw (none n (ltb-true p n s) (omega arith)) (last_is n p (ltb-true p n s) t (λ k a b. none k a (omega arith))))
+      (λ s. let e : n ≡ p = omega (arith, ltb-false p n s) in rw (e, t))
+
+  last_none : (n : ℕ) → ((k : ℕ) → k < n → test k ≡ false) → last test n ≡ None
+  unfolding last
+  last_none zero h = refl
+  last_none (suc n) h = rw (h n (omega arith)) (last_none n (λ k g. h k (omega arith)))
+
+pub found_last : {test : ℕ → Bool} {l : List ℕ} (r : ℕ) (o : Option ℕ) → Last test l r → SomeIff o (1 ≤ r) (r - 1) → o ≡ last_place test l
+unfolding last_place
+found_last {test} {l} r (Some p) d h =
+    sym (last_is test (length l) p (omega (arith, d.passed.on, d.passed.within, h.0, h.1)) (ap test h.1 ∙ d.passes (omega (arith, h.0))) (λ k a b. d.passed.none k (omega (arith, h.0, h.1)) b))
+found_last {test} {l} r None d h =
+    let z : r ≤ 0 = by_test (ltb 0 r) (λ s. absurd (h (omega (arith, ltb-true 0 r s)))) (λ s. omega (arith, ltb-false 0 r s)) in
+    sym (last_none test (length l) (λ k g. d.passed.none k (omega arith) g))
 
 -- ---- where it lies
 module _ (test : ℕ → Bool) where

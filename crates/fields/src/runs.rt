@@ -30,10 +30,11 @@ pub(crate) fn trailing<F: Fn(u8) -> bool>(l: &[u8], test: F) -> Option<usize>
 }
 
 // The last place that holds a byte.
+#[tactic(auto, using(crate::proofs::Last::found_last))]
 pub fn find_last(l: &[u8], b: u8) -> Option<usize>
     ensures { result ≡ last_place (holds b l.now) l.now }
 {
-    trailing(l, |x| x == b)
+    reading::behind_last(l, b).checked_sub(1)
 }
 
 // What digits are worth, if that is at most max. No sum is made that could be more.
