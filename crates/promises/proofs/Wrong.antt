@@ -9,9 +9,10 @@ use lib.ListN.{length, replicate}
 use Rattle.classes.specs.Classes.{is_white, is_blank, is_pop_white, is_digit, is_letter, is_upper, upper_of}
 use Rattle.direction.specs.Direction.{side, guess_number, guess, confirm}
 use Rattle.direction.specs.declared.Guess.TheVariants.{Swapped}
-use Rattle.events.specs.Events.{ev, numbers, result_number, encoding_number, sized_body}
+use Rattle.events.specs.Events.{ev, numbers, result_number, encoding_number, kind_number, sized_body}
 use Rattle.events.specs.Table.{Final, no_events, store, pour, finish, table_of}
 use Rattle.events.specs.declared.Encoding.TheVariants.{Unsaid, Base64}
+use Rattle.events.specs.declared.Kind.TheVariants as listed_as
 use Rattle.events.specs.declared.Outcome.TheVariants.{TooDeep}
 use Rattle.utf8.specs.Utf8.{octets_of, is_scalar, is_space, is_tail, lawful, sequence, opened, character, onto, behind, characters, size, is_utf8, dark_lead, dark_end}
 use Rattle.fields.specs.Common.{encoding_named, behind_spaces, transfer_encoding, closed, quoted, unquoted, typed, named, bare_parameter, parameter, content_type, content_type_ext, first_encoding, by_type, by_ext, by_boundary, scanned, unknown, dash_bdry}
@@ -118,7 +119,8 @@ leaves =
     (numbers (ev sized_body 25 3 Base64) is-neither 4 ∷ 3 ∷ 25 ∷ 5 ∷ [] nor 4 ∷ 25 ∷ 3 ∷ 0 ∷ []) ∷
     -- put: nothing written; a number past the slot written
     (table_of (7 ∷ 7 ∷ 7 ∷ 7 ∷ 7 ∷ []) no_events (ev sized_body 25 3 Base64) is-neither 7 ∷ 7 ∷ 7 ∷ 7 ∷ 7 ∷ [] nor 4 ∷ 25 ∷ 3 ∷ 5 ∷ 0 ∷ []) ∷
-    -- number of a result, of a guess: the next one; 0
+    -- number of a kind, of a result, of a guess: the next one; 0
+    (kind_number listed_as.Password ∷ [] is-neither 11 ∷ [] nor 0 ∷ []) ∷
     (result_number TooDeep ∷ [] is-neither 10 ∷ [] nor 0 ∷ []) ∷
     (guess_number Swapped ∷ [] is-neither 2 ∷ [] nor 0 ∷ []) ∷
     -- dir_confirm: as given; unknown
@@ -183,7 +185,7 @@ dissectors =
     (outcome (imap_client (replicate 4 99) (text "a\nb")) is-neither 0 ∷ 2 ∷ 1 ∷ 7 ∷ 0 ∷ 1 ∷ 0 ∷ [] nor 1 ∷ 2 ∷ 1 ∷ replicate 4 99) ∷
     []
 
-pub wrong_answers : map met (leaves ++ dissectors) ≡ replicate 30 false
+pub wrong_answers : map met (leaves ++ dissectors) ≡ replicate 31 false
 unfolding answer settle result_of place_of react reacts need wants runs_on go turn fetch parted reach past first first_place holds stands found contains
     delimits may_stand starts_with same ends_with raised clean drop_end upper_of is_letter is_upper is_white is_blank is_pop_white is_digit store pour finish
     lead last last_place through worth worth_behind up_to transfer_encoding encoding_named behind_spaces closed quoted unquoted typed named bare_parameter
