@@ -119,8 +119,9 @@ leaves =
     (numbers (ev sized_body 25 3 Base64) is-neither 4 ∷ 3 ∷ 25 ∷ 5 ∷ [] nor 4 ∷ 25 ∷ 3 ∷ 0 ∷ []) ∷
     -- put: nothing written; a number past the slot written
     (table_of (7 ∷ 7 ∷ 7 ∷ 7 ∷ 7 ∷ []) no_events (ev sized_body 25 3 Base64) is-neither 7 ∷ 7 ∷ 7 ∷ 7 ∷ 7 ∷ [] nor 4 ∷ 25 ∷ 3 ∷ 5 ∷ 0 ∷ []) ∷
-    -- number of a kind, of a result, of a guess: the next one; 0
+    -- number of a kind, of an encoding, of a result, of a guess: the next one; 0
     (kind_number listed_as.Password ∷ [] is-neither 11 ∷ [] nor 0 ∷ []) ∷
+    (encoding_number Base64 ∷ [] is-neither 6 ∷ [] nor 0 ∷ []) ∷
     (result_number TooDeep ∷ [] is-neither 10 ∷ [] nor 0 ∷ []) ∷
     (guess_number Swapped ∷ [] is-neither 2 ∷ [] nor 0 ∷ []) ∷
     -- dir_confirm: as given; unknown
@@ -185,7 +186,7 @@ dissectors =
     (outcome (imap_client (replicate 4 99) (text "a\nb")) is-neither 0 ∷ 2 ∷ 1 ∷ 7 ∷ 0 ∷ 1 ∷ 0 ∷ [] nor 1 ∷ 2 ∷ 1 ∷ replicate 4 99) ∷
     []
 
-pub wrong_answers : map met (leaves ++ dissectors) ≡ replicate 31 false
+pub wrong_answers : map met (leaves ++ dissectors) ≡ replicate 32 false
 unfolding answer settle result_of place_of react reacts need wants runs_on go turn fetch parted reach past first first_place holds stands found contains
     delimits may_stand starts_with same ends_with raised clean drop_end upper_of is_letter is_upper is_white is_blank is_pop_white is_digit store pour finish
     lead last last_place through worth worth_behind up_to transfer_encoding encoding_named behind_spaces closed quoted unquoted typed named bare_parameter
