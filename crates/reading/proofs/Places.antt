@@ -24,6 +24,10 @@ by_test false yes' no' = no' refl
 pub at_same : {p q : ℕ} → Some p ≡ Some q → p ≡ q
 at_same e = cc
 
+-- the numbers of a range, each at its own place
+pub range_at : (n k : ℕ) → k < n → get_or (range_with_len 0 n) k 0 ≡ k
+range_at n k h = get_or-range_with_len 0 n k 0 h ∙ let e : 0 + k ≡ k = omega arith in e
+
 -- ---- a search that has come to p: the first place from p on is the first place
 pub record Sought (test : ℕ → Bool) (l : List ℕ) (p : ℕ) : Type 0 where
   pub within : p ≤ length l
@@ -116,9 +120,6 @@ module _ (test : ℕ → Bool) where
   unfolding first
   first_found p zero k h g t = absurd (omega arith)
   first_found p (suc n) k h g t = found_turn (test p) p k (first test (p + 1) n) refl t (λ d. first_found (p + 1) n k (omega (arith, d)) (omega arith) t)
-
-  range_at : (n k : ℕ) → k < n → get_or (range_with_len 0 n) k 0 ≡ k
-  range_at n k h = get_or-range_with_len 0 n k 0 h ∙ let e : 0 + k ≡ k = omega arith in e
 
   -- what `any` answers over the first n places
   pub any_is : (n : ℕ) (r : Bool)

@@ -1,7 +1,7 @@
 -- Words: what a word that stands somewhere says of the bytes there.
 -- Assumes nothing.
 use mathlib.Core.Path.{◌≡◌, refl, sym, ap, ◌∙◌}
-use mathlib.Core.Bool.{Bool, true, false, ◌&&◌, and_assoc}
+use mathlib.Core.Bool.{Bool, true, false, ◌&&◌, and_assoc, and-false}
 use mathlib.Core.List.{List, [], ◌∷◌, ◌++◌, append-nil}
 use Prim.Native.Nat.{ℕ, zero, suc, ◌+◌, ◌-◌, ◌≤◌, ◌<◌}
 use native.Mathlib.Numerals.{add-one}
@@ -10,10 +10,11 @@ use lib.Dec.{eqb}
 use lib.ListN.{length, take, drop, get_or, drop_of_length-le, length-drop, length-map}
 use lib.Seq.{drop-cons, take_all}
 use borrow.Author.Tests.{eqb-true, eq-eqb, ne_eqb}
-use Rattle.std.proofs.lemmas.List.FromFn.{length-range_with_len, get_or-range_with_len}
+use Rattle.std.proofs.lemmas.List.FromFn.{length-range_with_len}
 use Rattle.std.specs.Bool.{MatchBool}
 use Rattle.std.specs.List.{range_with_len, AllWithin, HoldsAt}
 use Rattle.classes.specs.Classes.{upper_of}
+use Rattle.reading.proofs.Places.{range_at}
 use Rattle.reading.specs.Bytes.{starts_with, same, raised}
 
 -- what is left at i is the byte at i and what is left at i + 1
@@ -95,14 +96,7 @@ unfolding starts_with raised
 differs_raised [] l k g n h = absurd (omega arith)
 differs_raised (x ∷ w) [] k g n h = absurd (omega arith)
 differs_raised (x ∷ w) (y ∷ l) zero g n h = rw (ne_eqb (upper_of y) (upper_of x) h)
-differs_raised (x ∷ w) (y ∷ l) (suc k) g n h = rw (differs_raised w l k (omega arith) (omega arith) h, and_off (eqb (upper_of y) (upper_of x)))
-  where
-    and_off : (b : Bool) → (b && false) ≡ false
-    and_off true = refl
-    and_off false = refl
-
-range_at : (n k : ℕ) → k < n → get_or (range_with_len 0 n) k 0 ≡ k
-range_at n k h = get_or-range_with_len 0 n k 0 h ∙ let e : 0 + k ≡ k = omega arith in e
+differs_raised (x ∷ w) (y ∷ l) (suc k) g n h = rw (differs_raised w l k (omega arith) (omega arith) h, and-false)
 
 -- what `all` answers over the places of w
 pub all_alike : (w l : List ℕ) (r : Bool) → length w ≤ length l
